@@ -1,0 +1,2 @@
+-- Facts that every crate may cite.
+pub mod Facts

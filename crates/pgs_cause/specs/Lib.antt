@@ -1,0 +1,2 @@
+-- What a count of faults shows.
+pub mod Count
