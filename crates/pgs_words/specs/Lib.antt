@@ -1,0 +1,3 @@
+-- How values are spelled as words and read again.
+pub mod Forms
+pub mod Fields
