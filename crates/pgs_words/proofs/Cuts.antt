@@ -3,7 +3,7 @@ use Rattle.std.proofs.Common.{◌≡◌, ℕ, zero, suc, ◌+◌, ◌<◌, ◌==
 use Rattle.std.proofs.lemmas.Bool.Decides.{eqb_tells}
 use Rattle.std.proofs.lemmas.List.Splits.{slice_split-cons_yes, slice_split-cons_no}
 use Rattle.std.specs.List.{onto_first}
-use Rattle.pgs_words.specs.Forms.{parts_of, none_left}
+use Rattle.pgs_words.specs.Forms.{parts_of, none_left, has_some}
 use Rattle.std.specs.Prelude.{None}
 
 onto_none : (b : ℕ) (parts : List (List ℕ)) → none_left (onto_first b parts) ≡ None
@@ -21,6 +21,18 @@ never_none byte (b ∷ bs) = cond_none (b == byte) b (parts_of byte bs)
 
 differs : (a b : ℕ) → (a ≡ b → ⊥) → (a == b) ≡ false
 differs a b h = elim (eqb_tells a b) [ inl p ↦ absurd (h p.1) | inr p ↦ p.0 ]
+
+onto_some : (b : ℕ) (parts : List (List ℕ)) → has_some (onto_first b parts) ≡ true
+onto_some b [] = refl
+onto_some b (part ∷ parts) = refl
+
+cond_some : (test : Bool) (b : ℕ) (parts : List (List ℕ)) → has_some (cond test ([] ∷ parts) (onto_first b parts)) ≡ true
+cond_some true b parts = refl
+cond_some false b parts = onto_some b parts
+
+pub parts_some : (byte : ℕ) (text : List ℕ) → has_some (parts_of byte text) ≡ true
+parts_some byte [] = refl
+parts_some byte (b ∷ bs) = cond_some (b == byte) b (parts_of byte bs)
 
 -- the byte stands first at i
 pub cut_here : (byte : ℕ) (text : List ℕ) (i : ℕ) → i < length text → ((k : ℕ) → k < i → get_or text k 0 ≡ byte → ⊥) → get_or text i 0 ≡ byte

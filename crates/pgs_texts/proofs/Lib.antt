@@ -1,0 +1,2 @@
+-- Laws of texts of lines.
+pub mod Meaning
