@@ -1,0 +1,3 @@
+-- Laws of lines.
+pub mod Fronts
+pub mod LineLaws

@@ -1,0 +1,6 @@
+/// What a scrub looks at.
+#[derive(Clone, Copy, Drop)]
+pub enum Kind {
+    /// Sizes, attributes and the digests of what it reads.
+    Deep,
+}

@@ -1,0 +1,93 @@
+ghost use Rattle.std.specs.Prelude.{◌≡◌};
+ghost use Rattle.std.specs.Option.{option_copied};
+ghost use Rattle.pgs_words.specs.Forms.{Gives, left, taken};
+ghost use Rattle.pgs_lines.specs.Objects as objects;
+
+use crate::damage::Damage;
+use crate::kind::Kind;
+use crate::op::Op;
+use crate::payload::Payload;
+use crate::snap::Snap;
+use pgs_bytes::Bytes;
+use pgs_words::{ReadError, after, ended, is_word, next, number, plain, positive_byte};
+use std::alloc::Global;
+
+/// The payload that a word spells.
+fn payload_in(alloc: Global, word: &[u8]) -> Result<Payload, ReadError>
+    ensures { Gives (λ x. x) result ((objects.payload).read word.now) }
+{
+    let Some(bytes) = after(word, b"text:") else {
+        return Err(ReadError::Outside);
+    };
+    if plain(bytes) {
+        let bytes = Bytes::from_slice(alloc, bytes)?;
+        return Ok(Payload::Text { bytes });
+    }
+    Err(ReadError::Outside)
+}
+
+/// The last word, as a payload.
+fn last_payload(alloc: Global, words: Option<&[u8]>) -> Result<Payload, ReadError>
+    ensures { Gives (λ x. x) result ((objects.last_payload).read (left 32 (option_copied words.entry))) }
+{
+    let (word, words) = next(words, b' ')?;
+    let payload = payload_in(alloc, word)?;
+    ended(words, b' ')?;
+    Ok(payload)
+}
+
+/// OP: the last words of a write.
+#[tactic(auto, unfolding(crate::specs::Objects::op_rows, crate::specs::Objects::op_read))]
+pub fn op(alloc: Global, words: Option<&[u8]>) -> Result<Op, ReadError>
+    ensures { Gives (λ x. x) result ((objects.op).read (left 32 (option_copied words.entry))) }
+{
+    let (word, words) = next(words, b' ')?;
+    if is_word(word, b"full") {
+        let payload = last_payload(alloc, words)?;
+        return Ok(Op::Full { payload });
+    }
+    Err(ReadError::Outside)
+}
+
+fn flip(words: Option<&[u8]>) -> Result<Damage, ReadError>
+    ensures { Gives (λ x. x) result (objects.flip_read (left 32 (option_copied words.entry))) }
+{
+    let (at, words) = number(words)?;
+    let (xor, words) = positive_byte(words)?;
+    ended(words, b' ')?;
+    Ok(Damage::Flip { at, xor })
+}
+
+/// DAMAGE: the last words of a damage.
+#[tactic(auto, unfolding(crate::specs::Objects::damage_rows, crate::specs::Objects::damage_read))]
+pub fn damage(words: Option<&[u8]>) -> Result<Damage, ReadError>
+    ensures { Gives (λ x. x) result ((objects.damage).read (left 32 (option_copied words.entry))) }
+{
+    let (word, words) = next(words, b' ')?;
+    if is_word(word, b"flip") {
+        return flip(words);
+    }
+    Err(ReadError::Outside)
+}
+
+/// SNAP.
+pub fn snap(words: Option<&[u8]>) -> Result<(Snap, Option<&[u8]>), ReadError>
+    ensures { Gives (λ x. (x.0, left 32 (option_copied x.1))) result (taken (objects.snap).read (left 32 (option_copied words.entry))) }
+{
+    let (word, words) = next(words, b' ')?;
+    if is_word(word, b"head") {
+        return Ok((Snap::Head, words));
+    }
+    Err(ReadError::Outside)
+}
+
+/// KIND.
+pub fn kind(words: Option<&[u8]>) -> Result<(Kind, Option<&[u8]>), ReadError>
+    ensures { Gives (λ x. (x.0, left 32 (option_copied x.1))) result (taken (objects.kind).read (left 32 (option_copied words.entry))) }
+{
+    let (word, words) = next(words, b' ')?;
+    if is_word(word, b"deep") {
+        return Ok((Kind::Deep, words));
+    }
+    Err(ReadError::Outside)
+}

@@ -1,0 +1,6 @@
+/// The word SNAP of a line.
+#[derive(Clone, Copy, Drop)]
+pub enum Snap {
+    /// `head`: the object itself and none of its clones.
+    Head,
+}
