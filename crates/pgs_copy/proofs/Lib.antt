@@ -1,0 +1,2 @@
+-- Laws of effects and damage.
+pub mod Laws

@@ -1,0 +1,14 @@
+//! The copies of one family of an object, the head and its clones, and what effects and damage do to them.
+#![tactic(auto)]
+
+mod damage;
+mod damages;
+mod effect;
+mod effects;
+mod obj_copy;
+
+pub use damage::Damage;
+pub use damages::apply_damage;
+pub use effect::Effect;
+pub use effects::apply_effects;
+pub use obj_copy::ObjCopy;
