@@ -1,2 +1,3 @@
 -- Laws of texts of lines.
+pub mod Turns
 pub mod Meaning

@@ -9,6 +9,7 @@ use Rattle.pgs_words.proofs.Laws.{FieldLaws}
 use Rattle.pgs_texts.specs.Grammar.{Grammar}
 use Rattle.pgs_texts.specs.Text.{Said, Passed, Says, said_text, may_stand, passes_limit, said_after, Goes, after_all, Reads, IsOutside, TooMuch, IsTooMuch, Stops, IsVerdict}
 use Rattle.pgs_texts.specs.Verdict.{◌>>=◌, Judges, judged, accepted, finished, verdict}
+use Rattle.pgs_texts.proofs.Turns.{verdict_cons}
 use Rattle.pgs_texts.specs.declared.script_error.ScriptError.{ScriptError}
 use Rattle.pgs_texts.specs.declared.script_error.ScriptError.TheVariants.{BadLine, Limit, Memory}
 
@@ -136,12 +137,6 @@ module _ {S L : Type 0} (p : ℕ → Bool) (g : Grammar S L) (k : GrammarLaws p 
 
   -- ---- all lines, from the grammar to the verdict
 
-  verdict_cons : (n : ℕ) (s : S) (text : List ℕ) (rest : List (List ℕ)) → has_some rest ≡ true
-      → verdict g n s (text ∷ rest) ≡ (accepted g n s text >>= λ t. verdict g (n + 1) t rest)
-  unfolding verdict
-  verdict_cons n s text [] e = absurd (true_false (sym e))
-  verdict_cons n s text (next ∷ rest) e = refl
-
   some_behind : (xs : List (Said L)) (tail : List (List ℕ)) → has_some tail ≡ true → has_some (map (said_text g) xs ++ tail) ≡ true
   some_behind [] tail e = e
   some_behind (x ∷ xs) tail e = refl
@@ -151,7 +146,7 @@ module _ {S L : Type 0} (p : ℕ → Bool) (g : Grammar S L) (k : GrammarLaws p 
   verdict_said n s [] tail some goes = ap (λ m. verdict g m s tail) (sym (add-zero n))
   verdict_said n s (x ∷ xs) tail some goes =
       let count : n + 1 + length xs ≡ n + suc (length xs) = omega arith in
-      verdict_cons n s (said_text g x) (map (said_text g) xs ++ tail) (some_behind xs tail some)
+      verdict_cons g n s (said_text g x) (map (said_text g) xs ++ tail) (some_behind xs tail some)
       ∙ ap (λ r. r >>= λ t. verdict g (n + 1) t (map (said_text g) xs ++ tail)) (here_ok n s x goes.0 goes.1)
       ∙ verdict_said (n + 1) (said_after g s x) xs tail some goes.2
       ∙ ap (λ m. verdict g m (after_all g (said_after g s x) xs) tail) count

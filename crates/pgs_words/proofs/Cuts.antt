@@ -1,8 +1,9 @@
 -- The first part of a text.
-use Rattle.std.proofs.Common.{◌≡◌, ℕ, zero, suc, ◌+◌, ◌<◌, ◌==◌, inl, inr, Bool, true, false, cond, List, [], ◌∷◌, length, get_or, take, drop, refl, eq-eqb, arith, add-one}
+use Rattle.std.proofs.Common.{◌≡◌, ℕ, zero, suc, ◌+◌, ◌<◌, ◌≤◌, ◌==◌, inl, inr, Bool, true, false, cond, List, [], ◌∷◌, length, get_or, take, drop, refl, eq-eqb, arith, add-one}
 use Rattle.std.proofs.lemmas.Bool.Decides.{eqb_tells}
-use Rattle.std.proofs.lemmas.List.Splits.{slice_split-cons_yes, slice_split-cons_no}
-use Rattle.std.specs.List.{onto_first}
+use Rattle.std.proofs.lemmas.List.Sums.{count_by-le-length}
+use Rattle.std.proofs.lemmas.List.Splits.{slice_split-cons_yes, slice_split-cons_no, length-slice_split}
+use Rattle.std.specs.List.{onto_first, count_by}
 use Rattle.pgs_words.specs.Forms.{parts_of, none_left, has_some}
 use Rattle.std.specs.Prelude.{None}
 
@@ -33,6 +34,13 @@ cond_some false b parts = onto_some b parts
 pub parts_some : (byte : ℕ) (text : List ℕ) → has_some (parts_of byte text) ≡ true
 parts_some byte [] = refl
 parts_some byte (b ∷ bs) = cond_some (b == byte) b (parts_of byte bs)
+
+-- and at most one more than it has bytes
+pub parts_few : (byte : ℕ) (text : List ℕ) → length (parts_of byte text) ≤ length text + 1
+parts_few byte text =
+    let count : length (parts_of byte text) ≡ count_by (λ b. b == byte) text + 1 = length-slice_split (λ b. b == byte) text in
+    let most : count_by (λ b. b == byte) text ≤ length text = count_by-le-length (λ b. b == byte) text in
+    omega arith
 
 -- the byte stands first at i
 pub cut_here : (byte : ℕ) (text : List ℕ) (i : ℕ) → i < length text → ((k : ℕ) → k < i → get_or text k 0 ≡ byte → ⊥) → get_or text i 0 ≡ byte

@@ -6,9 +6,9 @@ ghost use Rattle.pgs_words.specs.Forms.{Gives, parts_of, left, first_of, taken, 
 
 use crate::read_error::ReadError;
 
-// The text up to the first such byte, and what follows that byte.
+/// The text up to the first such byte, and what follows that byte. Where the text has none it is one part.
 #[tactic(auto, using(crate::proofs::Cuts::cuts))]
-fn cut(text: &[u8], byte: u8) -> Option<(&[u8], &[u8])>
+pub fn cut(text: &[u8], byte: u8) -> Option<(&[u8], &[u8])>
     ensures { MatchOption result
         (parts_of byte text.now ≡ text.now ∷ [])
         (λ x. parts_of byte text.now ≡ x.0.now ∷ parts_of byte x.1.now) }

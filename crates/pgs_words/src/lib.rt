@@ -6,7 +6,7 @@ mod names;
 mod numbers;
 mod read_error;
 
-pub use cursor::{after, ended, is_word, next, part, word};
+pub use cursor::{after, cut, ended, is_word, next, part, word};
 pub use names::{dashed, name, plain};
 pub use numbers::{number, number_in, positive, positive_byte};
 pub use read_error::ReadError;

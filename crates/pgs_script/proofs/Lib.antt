@@ -1,0 +1,3 @@
+-- Laws of scripts.
+pub mod Grammars
+pub mod Spelled
