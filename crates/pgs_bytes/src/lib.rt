@@ -2,5 +2,7 @@
 #![tactic(auto)]
 
 mod bytes;
+mod plain;
 
 pub use bytes::Bytes;
+pub use plain::{is_plain, is_plain_byte};

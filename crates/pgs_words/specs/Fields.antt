@@ -1,7 +1,7 @@
 -- The values that words spell: numbers and names.
 use Rattle.std.specs.Prelude.{ℕ, ◌==◌, ◌+◌, ◌-◌, ◌*◌, ◌^◌, ◌&&◌, Bool, nat_lt, nat_le, not, if◌then◌else◌, List, [], ◌∷◌, length, Option, Some, None}
 use Rattle.std.specs.Fmt.{decimal}
-use Rattle.std.specs.List.{list_all}
+pub use Rattle.pgs_bytes.specs.Texts.{plain_byte, is_plain}
 use Rattle.pgs_words.specs.Forms.{◌>>=◌, Field, when, such, itself, same_text}
 
 -- ---- numbers: decimal, without a leading zero unless it is 0, below a bound
@@ -36,13 +36,6 @@ abbrev pub positive_byte : Field ℕ
 positive_byte = such (λ n. nat_le n 255) positive
 
 -- ---- names
-
--- the bytes of words: 0x21 to 0x7E
-abbrev pub plain_byte : ℕ → Bool
-plain_byte b = nat_le 33 b && nat_le b 126
-
-abbrev pub is_plain : List ℕ → Bool
-is_plain w = list_all plain_byte w
 
 -- whether a word has so many bytes
 abbrev pub has_length : ℕ → ℕ → List ℕ → Bool

@@ -1,7 +1,7 @@
 -- How a value is spelled as one text, or as a list of texts, and how it is read again.
-use Rattle.std.specs.Prelude.{ℕ, ◌≡◌, ◌==◌, ◌&&◌, Bool, true, false, if◌then◌else◌, List, [], ◌∷◌, ◌++◌, Option, Some, None, option_map, nat_eq, Result, Ok, Err}
-use Rattle.std.specs.Cmp.Lexicographic.{pointwise}
+use Rattle.std.specs.Prelude.{ℕ, ◌≡◌, ◌==◌, ◌&&◌, Bool, true, false, if◌then◌else◌, List, [], ◌∷◌, ◌++◌, Option, Some, None, option_map, Result, Ok, Err}
 use Rattle.std.specs.List.{slice_split, join_with_byte}
+pub use Rattle.pgs_bytes.specs.Texts.{same_text}
 use Rattle.pgs_words.specs.declared.read_error.ReadError.{ReadError}
 use Rattle.pgs_words.specs.declared.read_error.ReadError.TheVariants.{Outside, Memory}
 
@@ -26,10 +26,6 @@ Gives view (Ok x) read = read ≡ Some (view x)
 Gives view (Err e) read = Fails e read
 
 -- ---- texts and their parts
-
--- whether two texts are the same
-abbrev pub same_text : List ℕ → List ℕ → Bool
-same_text a b = pointwise nat_eq a b
 
 -- the parts of a text between such bytes
 abbrev pub parts_of : ℕ → List ℕ → List (List ℕ)

@@ -7,6 +7,6 @@ mod numbers;
 mod read_error;
 
 pub use cursor::{after, cut, ended, is_word, next, part, word};
-pub use names::{dashed, name, plain};
+pub use names::{dashed, name};
 pub use numbers::{number, number_in, positive, positive_byte};
 pub use read_error::ReadError;

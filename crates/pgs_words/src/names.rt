@@ -2,32 +2,18 @@ ghost use Rattle.std.specs.Prelude.{◌≡◌, nat_le, ◌&&◌};
 ghost use Rattle.std.specs.Option.{option_copied};
 ghost use Rattle.pgs_words.specs.Forms.{Gives, left, taken};
 ghost use Rattle.pgs_words.specs.Fields as fields;
-ghost use Rattle.pgs_words.specs.Fields.{plain_byte, is_plain, has_length};
+ghost use Rattle.pgs_words.specs.Fields.{is_plain, has_length};
 
 use crate::cursor::{is_word, next};
 use crate::read_error::ReadError;
-use pgs_bytes::Bytes;
+use pgs_bytes::{Bytes, is_plain};
 use std::alloc::Global;
-
-// A byte that a word may have.
-fn is_plain_byte(b: u8) -> bool
-    ensures { result ≡ plain_byte b }
-{
-    33 <= b && b <= 126
-}
-
-/// Whether a word has only the bytes of words, 0x21 to 0x7E.
-pub fn plain(word: &[u8]) -> bool
-    ensures { result ≡ is_plain word.now }
-{
-    word.iter().all(|b| is_plain_byte(*b))
-}
 
 // Whether a word has so many bytes, all of them those of words.
 fn is_within(word: &[u8], least: usize, most: usize) -> bool
     ensures { result ≡ (has_length least most word.now && is_plain word.now) }
 {
-    least <= word.len() && word.len() <= most && plain(word)
+    least <= word.len() && word.len() <= most && is_plain(word)
 }
 
 /// The next word, which has 1 to so many bytes.

@@ -8,8 +8,8 @@ use crate::kind::Kind;
 use crate::op::Op;
 use crate::payload::Payload;
 use crate::snap::Snap;
-use pgs_bytes::Bytes;
-use pgs_words::{ReadError, after, ended, is_word, next, number, plain, positive_byte};
+use pgs_bytes::{Bytes, is_plain};
+use pgs_words::{ReadError, after, ended, is_word, next, number, positive_byte};
 use std::alloc::Global;
 
 /// The payload that a word spells.
@@ -19,7 +19,7 @@ fn payload_in(alloc: Global, word: &[u8]) -> Result<Payload, ReadError>
     let Some(bytes) = after(word, b"text:") else {
         return Err(ReadError::Outside);
     };
-    if plain(bytes) {
+    if is_plain(bytes) {
         let bytes = Bytes::from_slice(alloc, bytes)?;
         return Ok(Payload::Text { bytes });
     }

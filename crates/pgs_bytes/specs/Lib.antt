@@ -1,0 +1,2 @@
+-- What texts of bytes are made of.
+pub mod Texts

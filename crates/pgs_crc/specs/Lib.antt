@@ -1,0 +1,2 @@
+-- The words that tables of the digest hold.
+pub mod Table

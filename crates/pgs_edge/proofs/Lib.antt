@@ -1,0 +1,2 @@
+-- Lemmas on what calls read and write.
+pub mod Pieces

@@ -1,0 +1,7 @@
+-- Reading a source.
+use Rattle.std.specs.Prelude.{ℕ, ◌≤◌, List, length, Option}
+use Rattle.std.specs.Io.KnownBytes.{Consumes}
+
+-- what is left is what was left, less some front of at most `most` bytes
+abbrev pub TakesAtMost : Option (List ℕ) → Option (List ℕ) → ℕ → Type 0
+TakesAtMost old new most = (front : List ℕ) × Consumes old new front × (length front ≤ most)

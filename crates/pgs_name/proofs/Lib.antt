@@ -1,0 +1,2 @@
+-- Laws of the refusals of a name.
+pub mod Named
