@@ -5,3 +5,7 @@ use Rattle.std.specs.Io.KnownBytes.{Consumes}
 -- what is left is what was left, less some front of at most `most` bytes
 abbrev pub TakesAtMost : Option (List ℕ) → Option (List ℕ) → ℕ → Type 0
 TakesAtMost old new most = (front : List ℕ) × Consumes old new front × (length front ≤ most)
+
+-- what is left is what was left, less some front of at least `least` bytes, which came whether they were told or not
+abbrev pub GaveAtLeast : Option (List ℕ) → Option (List ℕ) → ℕ → Type 0
+GaveAtLeast old new least = (front : List ℕ) × Consumes old new front × (least ≤ length front)

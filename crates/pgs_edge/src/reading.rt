@@ -1,7 +1,7 @@
 ghost use Rattle.std.specs.Prelude.{◌≡◌, ◌<◌, ◌≤◌, ◌+◌, length, IfOk, IfSome, OnOk, IsErrOf};
 ghost use Rattle.std.specs.Io.KnownBytes.{IsAtEnd};
 ghost use Rattle.pgs_cause.specs.Count.{Rose};
-ghost use Rattle.pgs_edge.specs.Reading.{TakesAtMost};
+ghost use Rattle.pgs_edge.specs.Reading.{TakesAtMost, GaveAtLeast};
 ghost use Rattle.pgs_edge.specs.declared.reading.ReadAllError.TheVariants.{ReadFault, Memory};
 
 use crate::source::Source;
@@ -45,6 +45,8 @@ pub fn read_all<S: Source>(alloc: Global, source: &mut S, max: u32) -> Result<Ve
     ensures ended { OnOk result (IsAtEnd (S.left source.new)) }
     ensures too_long { IsErrOf result ReadAllError.TooLong
         → IfSome (S.left source.old) (λ input. max < length input) }
+    ensures came { IsErrOf result ReadAllError.TooLong
+        → GaveAtLeast (S.left source.old) (S.left source.new) (max + 1) }
     ensures fault { IsErrOf result ReadAllError.ReadFault
         → Rose (S.faults source.old) (S.faults source.new) }
     ensures front { TakesAtMost (S.left source.old) (S.left source.new) (max + 1) }

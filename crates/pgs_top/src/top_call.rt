@@ -1,0 +1,45 @@
+ghost use Rattle.std.specs.Prelude.{◌≡◌, ◌≢◌, ◌↔◌, map, string_bytes, MatchBool};
+ghost use Rattle.pgs_cause.specs.Count.{Rose};
+ghost use Rattle.pgs_top.specs.Ends.{Due, IsWritten, replay_words};
+
+use crate::ended::{Ended, Status};
+use crate::keep::nothing;
+use crate::replaying::replay;
+use pgs_edge::{Sink, Source};
+use std::alloc::Global;
+
+// Whether the words are the one word `replay`.
+fn is_replay(words: &[String]) -> bool
+    ensures { MatchBool result (map string_bytes words.now ≡ replay_words) (map string_bytes words.now ≢ replay_words) }
+{
+    let [word] = words else {
+        return false;
+    };
+    word.as_bytes() == b"replay".as_slice()
+}
+
+/// What the program does with the words of its command line, an input and an output.
+#[tactic(auto, using(crate::proofs::Dues::words_due))]
+pub fn top<S: Source, K: Sink>(
+    alloc: Global,
+    words: &[String],
+    source: &mut S,
+    sink: &mut K,
+) -> Ended
+    ensures words { (result.status ≡ Status.BadWords) ↔ (map string_bytes words.now ≢ replay_words) }
+    // How it ends is due for what was read,
+    ensures due { Due (S.left source.old) result.kept result.status }
+    // and what is written for what happened.
+    ensures written { IsWritten (K.taken sink.old) (K.taken sink.new) result.kept result.status }
+    // A fault comes only where the count of that end rose.
+    ensures read_fault { result.status ≡ Status.ReadFault → Rose (S.faults source.old) (S.faults source.new) }
+    ensures write_fault { result.status ≡ Status.WriteFault → Rose (K.faults sink.old) (K.faults sink.new) }
+{
+    if is_replay(words) {
+        return replay(alloc, source, sink);
+    }
+    Ended {
+        status: Status::BadWords,
+        kept: nothing(alloc),
+    }
+}
