@@ -1,0 +1,7 @@
+//! Each file tests one topic.
+mod copies;
+mod digests;
+mod ends;
+mod names;
+mod runs;
+mod words;
