@@ -43,12 +43,12 @@ pub fn next(parts: Option<&[u8]>, byte: u8) -> Result<(&[u8], Option<&[u8]>), Re
     }
 }
 
-/// Nothing is left.
+/// No word is left.
 #[tactic(auto, using(crate::proofs::Cuts::never_none))]
-pub fn ended(parts: Option<&[u8]>, byte: u8) -> Result<(), ReadError>
-    ensures { Gives (λ x. tt) result (none_left (left byte (option_copied parts.entry))) }
+pub fn ended(words: Option<&[u8]>) -> Result<(), ReadError>
+    ensures { Gives (λ x. tt) result (none_left (left 32 (option_copied words.entry))) }
 {
-    match parts {
+    match words {
         Some(_) => Err(ReadError::Outside),
         None => Ok(()),
     }

@@ -14,7 +14,7 @@ fn pool(words: Option<&[u8]>) -> Result<Line, ReadError>
     ensures { Gives (λ x. x) result (lines.pool_read (left 32 (option_copied words.entry))) }
 {
     let (bits, words) = number(words)?;
-    ended(words, b' ')?;
+    ended(words)?;
     Ok(Line::Pool { bits })
 }
 
@@ -23,7 +23,7 @@ fn osd(words: Option<&[u8]>) -> Result<Line, ReadError>
 {
     let (osd, words) = number(words)?;
     let (slots, words) = positive(words)?;
-    ended(words, b' ')?;
+    ended(words)?;
     Ok(Line::Osd { osd, slots })
 }
 
@@ -67,7 +67,7 @@ fn group(alloc: Global, words: Option<&[u8]>) -> Result<Line, ReadError>
 fn end(words: Option<&[u8]>) -> Result<Line, ReadError>
     ensures { Gives (λ x. x) result (lines.end_read (left 32 (option_copied words.entry))) }
 {
-    ended(words, b' ')?;
+    ended(words)?;
     Ok(Line::End)
 }
 

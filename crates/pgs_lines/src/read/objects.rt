@@ -32,7 +32,7 @@ fn last_payload(alloc: Global, words: Option<&[u8]>) -> Result<Payload, ReadErro
 {
     let (word, words) = next(words, b' ')?;
     let payload = payload_in(alloc, word)?;
-    ended(words, b' ')?;
+    ended(words)?;
     Ok(payload)
 }
 
@@ -54,7 +54,7 @@ fn flip(words: Option<&[u8]>) -> Result<Damage, ReadError>
 {
     let (at, words) = number(words)?;
     let (xor, words) = positive_byte(words)?;
-    ended(words, b' ')?;
+    ended(words)?;
     Ok(Damage::Flip { at, xor })
 }
 

@@ -32,7 +32,7 @@ fn settle(words: Option<&[u8]>) -> Result<Step, ReadError>
     ensures { Gives (λ x. x) result (steps.settle_read (left 32 (option_copied words.entry))) }
 {
     let (group, words) = number(words)?;
-    ended(words, b' ')?;
+    ended(words)?;
     Ok(Step::Settle { group })
 }
 
@@ -61,7 +61,7 @@ fn sweep(words: Option<&[u8]>) -> Result<Step, ReadError>
 {
     let (group, words) = number(words)?;
     let (kind, words) = kind(words)?;
-    ended(words, b' ')?;
+    ended(words)?;
     Ok(Step::Sweep { group, kind })
 }
 

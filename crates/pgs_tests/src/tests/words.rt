@@ -36,7 +36,7 @@ fn words_of_a_line(rt: HostRuntime) -> Result<(), Fail> {
     let (space, words) = dashed(alloc, words, 64)?;
     let words = word(words, b"a")?;
     let (name, words) = name(alloc, words, 255)?;
-    ended(words, b' ')?;
+    ended(words)?;
     assert_eq!(rt; (seven, byte, space.len(), name.len()), (7, 255, 0, 1));
     let (last, words) = next(Some(b"9"), b' ')?;
     assert_eq!(rt; (positive(Some(last))?.0, words.is_none()), (9, true));
