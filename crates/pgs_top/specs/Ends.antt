@@ -1,5 +1,6 @@
 -- How a run of the program ends, and why.
-use Rattle.std.specs.Prelude.{ℕ, zero, suc, ◌≡◌, ◌≤◌, ◌<◌, List, [], ◌∷◌, length, take, Option, Some, None, codes}
+use Rattle.std.specs.Prelude.{ℕ, zero, suc, ◌≡◌, ◌≤◌, ◌<◌, ◌++◌, List, [], ◌∷◌, length, take, Option, Some, None, codes}
+use Rattle.std.specs.Fmt.{decimal}
 use Rattle.std.specs.Io.KnownBytes.{Appends, Keeps}
 use Rattle.pgs_texts.specs.Text.{IsTextOf, IsBadLine, IsLimit}
 use Rattle.pgs_script.specs.Script.{script_grammar}
@@ -18,6 +19,16 @@ status_number ends.ReadFault = 4
 status_number ends.WriteFault = 5
 status_number (ends.Limit line) = 6
 status_number ends.Memory = 7
+
+-- the name of a status, with the number of its line
+abbrev pub status_text : Status → List ℕ
+status_text ends.Ok = codes "Ok"
+status_text ends.BadWords = codes "BadWords"
+status_text (ends.BadLine line) = codes "BadLine " ++ decimal line
+status_text ends.ReadFault = codes "ReadFault"
+status_text ends.WriteFault = codes "WriteFault"
+status_text (ends.Limit line) = codes "Limit " ++ decimal line
+status_text ends.Memory = codes "Memory"
 
 -- the most bytes of an input: 16 MiB
 abbrev pub INPUT_MAX : ℕ
