@@ -2,9 +2,13 @@ ghost use Rattle.std.specs.Prelude.{◌≡◌, List, [], length, slice_set, ◌=
 ghost use Rattle.std.specs.Cmp.{partial_equiv_from_equiv};
 ghost use Rattle.std.specs.Cmp.Lexicographic.{pointwise, slice_cmp, nat_list_cmp_total, nat_list_eq_equiv, texts_po, texts_ties};
 ghost use Rattle.std.specs.Ordering.{nat_cmp};
+ghost use Rattle.std.specs.Hash as fed;
+ghost use Rattle.std.specs.Cmp.Rules.{hashing};
+ghost use Rattle.std.proofs.Common.{rules};
 
 use std::alloc::{AllocError, Global};
 use std::cmp::Ordering;
+use std::hash::{Hash, Hasher};
 use std::marker::Model;
 
 /// A string of bytes, which contracts see as the list of its bytes. It is compared byte by byte, a
@@ -118,5 +122,15 @@ impl Ord for Bytes {
 
     fn cmp(&self, other: &Bytes) -> Ordering {
         self.items.as_slice().cmp(other.items.as_slice())
+    }
+}
+
+impl Hash for Bytes {
+    ghost hash_input = { λ b. fed.slice fed.u8 b };
+
+    ghost respects_eq = { Prim.search (hashing, rules) };
+
+    fn hash<H: Hasher>(&self, state: &mut H) {
+        self.items.hash(state);
     }
 }

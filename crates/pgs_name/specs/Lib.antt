@@ -2,3 +2,4 @@
 pub mod Bounds
 pub mod Refusal
 pub mod Digest
+pub mod Families

@@ -1,0 +1,70 @@
+use crate::version::Version;
+
+/// Why a write makes no effects. Sizes are in bytes.
+#[derive(Clone, Copy, Debug, PartialEq, Eq, Drop)]
+pub enum Refusal {
+    /// The object's new size is over the most that an object may have.
+    ObjectTooLarge {
+        /// The new size.
+        size: u64,
+    },
+    /// The store of the accepted writes would be over the most that it may hold.
+    StoreFull {
+        /// What it would hold.
+        bytes: u64,
+    },
+    /// The log would be over the most that it may hold.
+    LogFull {
+        /// What it would hold.
+        bytes: u64,
+    },
+}
+
+/// Why a write was not appended to the log.
+#[derive(Clone, Copy, Debug, PartialEq, Eq, Drop)]
+pub enum Declined {
+    /// The request stands in the log already.
+    Repeat {
+        /// Its version there.
+        version: Version,
+    },
+    /// It makes no effects.
+    Refused {
+        /// Why.
+        refusal: Refusal,
+    },
+}
+
+/// What a write is answered.
+#[derive(Clone, Copy, Debug, PartialEq, Eq, Drop)]
+pub enum WriteAnswer {
+    /// It was not appended.
+    Declined {
+        /// Why.
+        declined: Declined,
+    },
+    /// It was appended to the log.
+    Accepted {
+        /// Its version.
+        version: Version,
+    },
+}
+
+/// What a client is answered that asks for a request's outcome.
+#[derive(Clone, Copy, Debug, PartialEq, Eq, Drop)]
+pub enum CollectAnswer {
+    /// The request doesn't stand in the log.
+    Unknown,
+    /// It does, and an acting OSD has not told of it yet.
+    NotYet {
+        /// The first such OSD.
+        osd: u32,
+        /// The number up to which that OSD told.
+        told: u64,
+    },
+    /// Every acting OSD has told of it.
+    Acked {
+        /// Its version.
+        version: Version,
+    },
+}
