@@ -1,0 +1,33 @@
+-- Stores: which copy of which object is there.
+use Rattle.std.specs.Prelude.{ℕ, ◌≡◌, List, length, Option, Some, None, if◌then◌else◌}
+use Rattle.pgs_name.specs.Families.{same_family}
+use Rattle.pgs_name.specs.declared.family.Family.{Family}
+use Rattle.pgs_copy.specs.Copies.{no_copies, after_effects, after_damage}
+use Rattle.pgs_copy.specs.declared.obj_copy.ObjCopy.{ObjCopy}
+use Rattle.pgs_copy.specs.declared.effect.Effect.{Effect}
+use Rattle.pgs_copy.specs.declared.damage.Damage.{Damage}
+
+-- a store is seen as the copies of each family, by snap
+abbrev pub Stored : Type 0
+Stored = Family → ℕ → Option ObjCopy
+
+-- nothing is stored
+abbrev pub nothing_stored : Stored
+nothing_stored = λ f. no_copies
+
+-- two stores hold the same
+abbrev pub AreSame : Stored → Stored → Type 0
+AreSame a b = (f : Family) (q : ℕ) → a f q ≡ b f q
+
+-- a store after effects on the copies of one family: all others stay
+abbrev pub affected : Family → List (ℕ × Effect) → Stored → Stored
+affected family effects stored f q = if same_family family f then after_effects effects (stored f) q else stored f q
+
+-- a store after damage to one copy of a family
+abbrev pub harmed : Family → ℕ → Damage → Stored → Stored
+harmed family snap damage stored f q = if same_family family f then after_damage snap damage (stored f) q else stored f q
+
+-- the bytes that a copy holds: none where it isn't there
+abbrev pub copy_size : Option ObjCopy → ℕ
+copy_size None = 0
+copy_size (Some copy) = length copy.bytes

@@ -1,0 +1,82 @@
+ghost use Rattle.std.specs.Prelude.{◌≡◌, ℕ, OnOk, OnErr, IfOk};
+ghost use Rattle.std.specs.Option.{option_copied};
+ghost use Rattle.std.specs.Ordering.{nat_cmp};
+ghost use Rattle.std.specs.BTreeMap.{get};
+ghost use Rattle.pgs_store.specs.Stores.{AreSame, nothing_stored, affected, harmed};
+ghost use Rattle.pgs_store.specs.Kept.{stored};
+
+use indexmap::IndexMap;
+use pgs_copy::{Damage, Effect, ObjCopy, apply_damage, apply_effects};
+use pgs_name::Family;
+use std::alloc::{AllocError, Global};
+use std::collections::BTreeMap;
+
+/// Copies of objects in memory, by family and snap.
+#[derive(Drop)]
+pub struct Store {
+    families: IndexMap<Family, BTreeMap<u64, ObjCopy>>,
+}
+
+impl Store {
+    /// A store that holds nothing. It takes no memory.
+    pub fn new(alloc: Global) -> Store
+        ensures { AreSame (stored result) nothing_stored }
+    {
+        Store {
+            families: IndexMap::new(alloc),
+        }
+    }
+
+    /// The copy at a snap of a family.
+    pub fn copy(&self, family: &Family, snap: u64) -> Option<&ObjCopy>
+        ensures { option_copied result ≡ stored self.now family.now snap }
+    {
+        let copies = self.families.get(family)?;
+        copies.get(&snap)
+    }
+
+    // The copies of a family, as a map of its own.
+    fn copies(&self, alloc: Global, family: &Family) -> Result<BTreeMap<u64, ObjCopy>, AllocError>
+        ensures { IfOk result (λ copies. (q : ℕ) → get nat_cmp copies q ≡ stored self.now family.now q) }
+    {
+        match self.families.get(family) {
+            Some(copies) => copies.clone(),
+            None => Ok(BTreeMap::new(alloc)),
+        }
+    }
+
+    /// Applies effects to the copies of a family, in turn, or none of them where memory runs out.
+    pub fn apply(
+        &mut self,
+        alloc: Global,
+        family: &Family,
+        effects: &[(u64, Effect)],
+    ) -> Result<(), AllocError>
+        ensures ok { OnOk result (AreSame (stored self.new) (affected family.now effects.now (stored self.old))) }
+        ensures err { OnErr result (AreSame (stored self.new) (stored self.old)) }
+    {
+        let mut copies = self.copies(alloc, family)?;
+        apply_effects(alloc, &mut copies, effects)?;
+        let family = family.clone()?;
+        self.families.insert(family, copies)?;
+        Ok(())
+    }
+
+    /// Does damage to the copy at a snap of a family, if there is one.
+    pub fn damage(
+        &mut self,
+        alloc: Global,
+        family: &Family,
+        snap: u64,
+        damage: &Damage,
+    ) -> Result<(), AllocError>
+        ensures ok { OnOk result (AreSame (stored self.new) (harmed family.now snap damage.now (stored self.old))) }
+        ensures err { OnErr result (AreSame (stored self.new) (stored self.old)) }
+    {
+        let mut copies = self.copies(alloc, family)?;
+        apply_damage(alloc, &mut copies, snap, damage)?;
+        let family = family.clone()?;
+        self.families.insert(family, copies)?;
+        Ok(())
+    }
+}
