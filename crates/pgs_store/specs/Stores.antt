@@ -1,5 +1,6 @@
 -- Stores: which copy of which object is there.
-use Rattle.std.specs.Prelude.{ℕ, ◌≡◌, List, length, Option, Some, None, if◌then◌else◌}
+use Rattle.std.specs.Prelude.{ℕ, ◌≡◌, List, [], ◌∷◌, ◌++◌, length, Option, Some, None, if◌then◌else◌}
+use Rattle.std.specs.List.{list_any}
 use Rattle.pgs_name.specs.Families.{same_family}
 use Rattle.pgs_name.specs.declared.family.Family.{Family}
 use Rattle.pgs_copy.specs.Copies.{no_copies, after_effects, after_damage}
@@ -31,3 +32,7 @@ harmed family snap damage stored f q = if same_family family f then after_damage
 abbrev pub copy_size : Option ObjCopy → ℕ
 copy_size None = 0
 copy_size (Some copy) = length copy.bytes
+
+-- a list of families with one more, at its end, unless it has it
+abbrev pub noted : Family → List Family → List Family
+noted family families = if list_any (same_family family) families then families else families ++ family ∷ []

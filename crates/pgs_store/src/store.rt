@@ -1,11 +1,11 @@
-ghost use Rattle.std.specs.Prelude.{◌≡◌, ℕ, OnOk, OnErr, IfOk, if◌then◌else◌};
+ghost use Rattle.std.specs.Prelude.{◌≡◌, ℕ, [], slice_get, OnOk, OnErr, IfOk, if◌then◌else◌};
 ghost use Rattle.std.specs.Option.{option_copied};
 ghost use Rattle.std.specs.Ordering.{nat_cmp};
 ghost use Rattle.std.specs.BTreeMap.{get};
 ghost use Rattle.pgs_name.specs.Families.{same_family};
 ghost use Rattle.pgs_name.specs.declared.family.Family.{Family as FamilyName};
-ghost use Rattle.pgs_store.specs.Stores.{AreSame, nothing_stored, affected, harmed};
-ghost use Rattle.pgs_store.specs.Kept.{stored};
+ghost use Rattle.pgs_store.specs.Stores.{AreSame, nothing_stored, affected, harmed, noted};
+ghost use Rattle.pgs_store.specs.Kept.{stored, touched};
 
 use indexmap::IndexMap;
 use pgs_copy::{Damage, Effect, ObjCopy, apply_damage, apply_effects};
@@ -22,7 +22,8 @@ pub struct Store {
 impl Store {
     /// A store that holds nothing. It takes no memory.
     pub fn new(alloc: Global) -> Store
-        ensures { AreSame (stored result) nothing_stored }
+        ensures stored { AreSame (stored result) nothing_stored }
+        ensures touched { touched result ≡ [] }
     {
         Store {
             families: IndexMap::new(alloc),
@@ -37,6 +38,14 @@ impl Store {
         copies.get(&snap)
     }
 
+    /// The family at a place, in the order in which they were first touched, from 0.
+    pub fn family_at(&self, at: usize) -> Option<&Family>
+        ensures { option_copied result ≡ slice_get (touched self.now) at }
+    {
+        let (family, _) = self.families.get_index(at)?;
+        Some(family)
+    }
+
     // The copies of a family, as a map of its own.
     fn copies(&self, alloc: Global, family: &Family) -> Result<BTreeMap<u64, ObjCopy>, AllocError>
         ensures { IfOk result (λ copies. (q : ℕ) → get nat_cmp copies q ≡ stored self.now family.now q) }
@@ -48,10 +57,11 @@ impl Store {
     }
 
     // Puts a map in the place of the copies of a family.
-    #[tactic(auto, using(crate::proofs::Puts::in_map_cond))]
+    #[tactic(auto, using(crate::proofs::Puts::in_map_cond, crate::proofs::Puts::keys_noted))]
     fn put(&mut self, family: &Family, copies: BTreeMap<u64, ObjCopy>) -> Result<(), AllocError>
         ensures ok { OnOk result ((f : FamilyName) (q : ℕ) → stored self.new f q ≡ (if same_family family.now f then get nat_cmp copies q else stored self.old f q)) }
-        ensures err { OnErr result (AreSame (stored self.new) (stored self.old)) }
+        ensures touched { OnOk result (touched self.new ≡ noted family.now (touched self.old)) }
+        ensures err { OnErr result (AreSame (stored self.new) (stored self.old) × (touched self.new ≡ touched self.old)) }
     {
         let family = family.clone()?;
         self.families.insert(family, copies)?;
@@ -66,7 +76,8 @@ impl Store {
         effects: &[(u64, Effect)],
     ) -> Result<(), AllocError>
         ensures ok { OnOk result (AreSame (stored self.new) (affected family.now effects.now (stored self.old))) }
-        ensures err { OnErr result (AreSame (stored self.new) (stored self.old)) }
+        ensures touched { OnOk result (touched self.new ≡ noted family.now (touched self.old)) }
+        ensures err { OnErr result (AreSame (stored self.new) (stored self.old) × (touched self.new ≡ touched self.old)) }
     {
         let mut copies = self.copies(alloc, family)?;
         apply_effects(alloc, &mut copies, effects)?;
@@ -83,7 +94,8 @@ impl Store {
         damage: &Damage,
     ) -> Result<(), AllocError>
         ensures ok { OnOk result (AreSame (stored self.new) (harmed family.now snap damage.now (stored self.old))) }
-        ensures err { OnErr result (AreSame (stored self.new) (stored self.old)) }
+        ensures touched { OnOk result (touched self.new ≡ noted family.now (touched self.old)) }
+        ensures err { OnErr result (AreSame (stored self.new) (stored self.old) × (touched self.new ≡ touched self.old)) }
     {
         let mut copies = self.copies(alloc, family)?;
         apply_damage(alloc, &mut copies, snap, damage)?;
