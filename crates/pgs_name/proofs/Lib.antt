@@ -1,2 +1,3 @@
--- Laws of the refusals of a name.
+-- Laws of the refusals of a name, and of families.
 pub mod Named
+pub mod Families

@@ -1,7 +1,9 @@
-ghost use Rattle.std.specs.Prelude.{◌≡◌, ℕ, OnOk, OnErr, IfOk};
+ghost use Rattle.std.specs.Prelude.{◌≡◌, ℕ, OnOk, OnErr, IfOk, if◌then◌else◌};
 ghost use Rattle.std.specs.Option.{option_copied};
 ghost use Rattle.std.specs.Ordering.{nat_cmp};
 ghost use Rattle.std.specs.BTreeMap.{get};
+ghost use Rattle.pgs_name.specs.Families.{same_family};
+ghost use Rattle.pgs_name.specs.declared.family.Family.{Family as FamilyName};
 ghost use Rattle.pgs_store.specs.Stores.{AreSame, nothing_stored, affected, harmed};
 ghost use Rattle.pgs_store.specs.Kept.{stored};
 
@@ -45,6 +47,17 @@ impl Store {
         }
     }
 
+    // Puts a map in the place of the copies of a family.
+    #[tactic(auto, using(crate::proofs::Puts::in_map_cond))]
+    fn put(&mut self, family: &Family, copies: BTreeMap<u64, ObjCopy>) -> Result<(), AllocError>
+        ensures ok { OnOk result ((f : FamilyName) (q : ℕ) → stored self.new f q ≡ (if same_family family.now f then get nat_cmp copies q else stored self.old f q)) }
+        ensures err { OnErr result (AreSame (stored self.new) (stored self.old)) }
+    {
+        let family = family.clone()?;
+        self.families.insert(family, copies)?;
+        Ok(())
+    }
+
     /// Applies effects to the copies of a family, in turn, or none of them where memory runs out.
     pub fn apply(
         &mut self,
@@ -57,8 +70,7 @@ impl Store {
     {
         let mut copies = self.copies(alloc, family)?;
         apply_effects(alloc, &mut copies, effects)?;
-        let family = family.clone()?;
-        self.families.insert(family, copies)?;
+        self.put(family, copies)?;
         Ok(())
     }
 
@@ -75,8 +87,7 @@ impl Store {
     {
         let mut copies = self.copies(alloc, family)?;
         apply_damage(alloc, &mut copies, snap, damage)?;
-        let family = family.clone()?;
-        self.families.insert(family, copies)?;
+        self.put(family, copies)?;
         Ok(())
     }
 }

@@ -1,0 +1,2 @@
+-- Laws of stores.
+pub mod Puts
