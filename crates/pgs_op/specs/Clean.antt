@@ -13,7 +13,7 @@ clean c = stored c.store
 
 -- the bytes that it holds
 abbrev pub held_by : CleanStore → ℕ
-held_by c = c.held
+held_by c = c.held.bytes
 
 -- those that it would hold after a write
 abbrev pub held_with : CleanStore → Write → ℕ

@@ -5,7 +5,7 @@ ghost use Rattle.pgs_store.specs.Stores.{AreSame, nothing_stored, affected};
 ghost use Rattle.pgs_op.specs.Clean.{clean, held_by, held_with};
 ghost use Rattle.pgs_op.specs.declared.limits.TheConstants.{STORE_MAX};
 
-use crate::limits::STORE_MAX;
+use crate::held::Held;
 use crate::sizes;
 use crate::write::Write;
 use pgs_copy::{Effect, ObjCopy};
@@ -17,8 +17,7 @@ use std::alloc::{AllocError, Global};
 #[derive(Drop)]
 pub struct CleanStore {
     store: Store,
-    held: u64,
-    ghost within: { held ≤ STORE_MAX },
+    held: Held,
 }
 
 impl CleanStore {
@@ -29,7 +28,7 @@ impl CleanStore {
     {
         CleanStore {
             store: Store::new(alloc),
-            held: 0,
+            held: Held { bytes: 0 },
         }
     }
 
@@ -45,7 +44,7 @@ impl CleanStore {
         ensures held { result ≡ held_by self.now }
         ensures within { result ≤ STORE_MAX }
     {
-        self.held
+        self.held.bytes
     }
 
     /// Applies the effects of a write that isn't refused, or none of them where memory runs out.
@@ -61,9 +60,9 @@ impl CleanStore {
         ensures err { OnErr result (AreSame (clean self.new) (clean self.old)) }
         ensures err_held { OnErr result (held_by self.new ≡ held_by self.old) }
     {
-        let held = sizes::new_held(self.held, self.head(&write.family), &write.op);
+        let bytes = sizes::new_held(self.held.bytes, self.head(&write.family), &write.op);
         self.store.apply(alloc, &write.family, effects)?;
-        self.held = held;
+        self.held = Held { bytes };
         Ok(())
     }
 }

@@ -2,6 +2,7 @@
 #![tactic(auto)]
 
 mod clean_store;
+mod held;
 mod limits;
 mod making;
 mod sizes;

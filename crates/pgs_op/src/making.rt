@@ -62,7 +62,7 @@ fn accepted(
     head: Option<&ObjCopy>,
     op: &Op,
 ) -> Result<Items<(u64, Effect)>, AllocError>
-    ensures { IfOk result (λ effects. effects ≡ effects_of (option_copied head) op.now) }
+    ensures { IfOk result (λ effects. effects ≡ effects_of (option_copied head.entry) op.now) }
 {
     let mut effects = Items::new(alloc);
     if head.is_none() {

@@ -27,14 +27,14 @@ pub fn counted_size(op: &Op) -> u64
 /// What a store would hold after a write, of what it holds now and the head there.
 pub fn new_held(held: u64, head: Option<&ObjCopy>, op: &Op) -> u64
     requires { held_after held (option_copied head) op.now < 2 ^ 64 }
-    ensures { result ≡ held_after held (option_copied head) op.now }
+    ensures { result ≡ held_after held (option_copied head.entry) op.now }
 {
     let size = new_size(op);
     held.saturating_sub(held_by(head)) + size
 }
 
 fn held_by(head: Option<&ObjCopy>) -> u64
-    ensures { result ≡ copy_size (option_copied head) }
+    ensures { result ≡ copy_size (option_copied head.entry) }
 {
     match head {
         Some(copy) => copy.bytes.len() as u64,
