@@ -1,0 +1,68 @@
+ghost use Rattle.std.specs.Prelude.{◌≡◌, ◌≤◌, OnOk, OnErr};
+ghost use Rattle.std.specs.Option.{option_copied};
+ghost use Rattle.pgs_name.specs.declared.object_id.TheConstants.{HEAD};
+ghost use Rattle.pgs_store.specs.Stores.{AreSame, nothing_stored, affected};
+ghost use Rattle.pgs_op.specs.Clean.{clean, held_by, held_with};
+ghost use Rattle.pgs_op.specs.declared.limits.TheConstants.{STORE_MAX};
+
+use crate::held::Held;
+use crate::sizes;
+use crate::write::Write;
+use pgs_copy::{Effect, ObjCopy};
+use pgs_name::{Family, HEAD};
+use pgs_store::Store;
+use std::alloc::{AllocError, Global};
+
+/// The store of a group's accepted writes alone, which no member's damage touches. It counts the bytes that its copies hold.
+#[derive(Drop)]
+pub struct CleanStore {
+    store: Store,
+    held: Held,
+}
+
+impl CleanStore {
+    /// A store that holds nothing. It takes no memory.
+    pub fn new(alloc: Global) -> CleanStore
+        ensures stored { AreSame (clean result) nothing_stored }
+        ensures held { held_by result ≡ 0 }
+    {
+        CleanStore {
+            store: Store::new(alloc),
+            held: Held { bytes: 0 },
+        }
+    }
+
+    /// The head of a family.
+    pub fn head(&self, family: &Family) -> Option<&ObjCopy>
+        ensures { option_copied result ≡ clean self.now family.now HEAD }
+    {
+        self.store.copy(family, HEAD)
+    }
+
+    /// How many bytes its copies hold.
+    pub fn held(&self) -> u64
+        ensures held { result ≡ held_by self.now }
+        ensures within { result ≤ STORE_MAX }
+    {
+        self.held.bytes
+    }
+
+    /// Applies the effects of a write that isn't refused, or none of them where memory runs out.
+    pub fn apply(
+        &mut self,
+        alloc: Global,
+        write: &Write,
+        effects: &[(u64, Effect)],
+    ) -> Result<(), AllocError>
+        requires { held_with self.old write.now ≤ STORE_MAX }
+        ensures ok { OnOk result (AreSame (clean self.new) (affected write.now.family effects.now (clean self.old))) }
+        ensures held { OnOk result (held_by self.new ≡ held_with self.old write.now) }
+        ensures err { OnErr result (AreSame (clean self.new) (clean self.old)) }
+        ensures err_held { OnErr result (held_by self.new ≡ held_by self.old) }
+    {
+        let bytes = sizes::new_held(self.held.bytes, self.head(&write.family), &write.op);
+        self.store.apply(alloc, &write.family, effects)?;
+        self.held = Held { bytes };
+        Ok(())
+    }
+}

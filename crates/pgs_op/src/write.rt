@@ -1,0 +1,11 @@
+use pgs_name::Family;
+use pgs_request::{Op, ReqId};
+
+/// A write that a client asks for.
+#[derive(Drop)]
+pub struct Write {
+    pub id: ReqId,
+    /// The object that is written, of which the head is meant.
+    pub family: Family,
+    pub op: Op,
+}
