@@ -1,0 +1,8 @@
+-- What the events of a group say.
+pub mod Log
+pub mod Members
+pub mod Answers
+pub mod After
+pub mod Legal
+pub mod Facts
+pub mod History

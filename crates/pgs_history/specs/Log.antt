@@ -1,0 +1,71 @@
+-- The log of a group, by its events, the newest first: the items of the accepted writes.
+use Rattle.std.specs.Prelude.{ℕ, ◌==◌, ◌&&◌, ◌+◌, Bool, List, [], ◌∷◌, length, Option, Some, None, if◌then◌else◌}
+use Rattle.std.specs.List.{sum_by}
+use Rattle.pgs_name.specs.declared.family.Family.{Family}
+use Rattle.pgs_name.specs.declared.object_id.TheConstants.{HEAD}
+use Rattle.pgs_store.specs.Stores.{Stored, nothing_stored, affected, noted, copy_size}
+use Rattle.pgs_request.specs.declared.req_id.ReqId.{ReqId}
+use Rattle.pgs_request.specs.declared.version.Version.{Version}
+use Rattle.pgs_request.specs.declared.answers.WriteAnswer.TheVariants.{Accepted}
+use Rattle.pgs_op.specs.Effects.{payload_size, effects_of}
+use Rattle.pgs_op.specs.declared.write.Write.{Write}
+use Rattle.pgs_medium.specs.declared.item.Item.{Item}
+use Rattle.pgs_history.specs.declared.event.Event.{Event}
+use Rattle.pgs_history.specs.declared.event.Event.TheVariants.{Submit}
+
+-- ---- the store of the items alone
+
+-- what items make, applied in turn to nothing: the clean store
+abbrev pub clean : List Item → Stored
+clean [] = nothing_stored
+clean (item ∷ items) = affected item.family item.effects (clean items)
+
+-- the families of items, in the order of their first items
+abbrev pub families : List Item → List Family
+families [] = []
+families (item ∷ items) = noted item.family (families items)
+
+-- the bytes of the copies that the items make: until clones come, those of the heads
+abbrev pub head_size : Stored → Family → ℕ
+head_size stored family = copy_size (stored family HEAD)
+
+abbrev pub held : List Item → ℕ
+held items = sum_by (head_size (clean items)) (families items)
+
+-- ---- the log
+
+-- the item that a write makes where these items are the log
+abbrev pub item_of : Version → Write → List Item → Item
+item_of version write items = record {
+  number = version.number;
+  epoch = version.epoch;
+  family = write.family;
+  effects = effects_of (clean items write.family HEAD) write.op;
+}
+
+abbrev pub log_after : Event → List Item → List Item
+log_after (Submit write (Accepted version)) items = item_of version write items ∷ items
+log_after event items = items
+
+-- its items
+abbrev pub log : List Event → List Item
+log [] = []
+log (event ∷ past) = log_after event (log past)
+
+abbrev pub ids_after : Event → List (ReqId × Version) → List (ReqId × Version)
+ids_after (Submit write (Accepted version)) ids = (write.id, version) ∷ ids
+ids_after event ids = ids
+
+-- the ids of its requests, with their versions
+abbrev pub ids : List Event → List (ReqId × Version)
+ids [] = []
+ids (event ∷ past) = ids_after event (ids past)
+
+abbrev pub log_bytes_after : Event → ℕ → ℕ
+log_bytes_after (Submit write (Accepted version)) bytes = bytes + payload_size write.op
+log_bytes_after event bytes = bytes
+
+-- the bytes that it counts: those of the payloads
+abbrev pub log_bytes : List Event → ℕ
+log_bytes [] = 0
+log_bytes (event ∷ past) = log_bytes_after event (log_bytes past)

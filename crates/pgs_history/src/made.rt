@@ -1,0 +1,12 @@
+use sqlite_items::Items;
+
+/// What a group was made with.
+#[derive(Drop)]
+pub struct Made {
+    /// Its number.
+    pub number: u32,
+    /// The epoch in which it began.
+    pub epoch: u32,
+    /// Its members, each once. All of them are acting, and the first is the primary.
+    pub members: Items<u32>,
+}
