@@ -1,5 +1,5 @@
 -- The ids and numbers of a legal log.
-use Rattle.std.proofs.Common.{◌≡◌, ℕ, zero, suc, ◌+◌, ◌<◌, ◌≤◌, ◌==◌, nat_lt, nat_le, max, Bool, true, false, cond, ◌&&◌, List, [], ◌∷◌, length, Option, Some, None, refl, sym, ap, ◌∙◌, subst, arith, inl, inr}
+use Rattle.std.proofs.Common.{◌≡◌, ℕ, zero, suc, ◌+◌, ◌<◌, ◌≤◌, ◌==◌, nat_eq, nat_lt, nat_le, max, Bool, true, false, cond, ◌&&◌, List, [], ◌∷◌, length, Option, Some, None, refl, sym, ap, ◌∙◌, subst, arith, inl, inr}
 use Rattle.std.specs.Prelude.{option_map, count_by}
 use Rattle.std.proofs.lemmas.Bool.Decides.{nat_tests, eqb_tells}
 use Rattle.std.proofs.lemmas.List.Sums.{sum_by-cons}
@@ -13,10 +13,11 @@ use Rattle.pgs_request.specs.declared.answers.WriteAnswer.TheVariants.{Declined,
 use Rattle.pgs_op.specs.Effects.{first}
 use Rattle.pgs_op.specs.declared.write.Write.{Write}
 use Rattle.pgs_history.specs.Log.{log, ids}
-use Rattle.pgs_history.specs.Members.{same_id, pulled}
-use Rattle.pgs_history.specs.Answers.{version_in, refused, declined, answered, next_version, submit_answer}
+use Rattle.pgs_op_log.specs.Logs.{same_id, version_in, AreNumbered}
+use Rattle.pgs_history.specs.Members.{pulled}
+use Rattle.pgs_history.specs.Answers.{refused, declined, answered, next_version, submit_answer}
 use Rattle.pgs_history.specs.Legal.{IsLegal}
-use Rattle.pgs_history.specs.Facts.{AreNumbered, AreDistinct, times}
+use Rattle.pgs_history.specs.Facts.{AreDistinct, times}
 use Rattle.pgs_history.specs.declared.event.Event.{Event}
 use Rattle.pgs_history.specs.declared.event.Event.TheVariants.{Submit, Collect, Pull, Tell}
 use Rattle.pgs_history.specs.declared.made.Made.{Made}
@@ -59,7 +60,7 @@ numbered made (Tell osd applied ∷ past) legal = numbered made past legal.1
 
 pub same_id_is : (a b : ReqId) → same_id a b ≡ true → a ≡ b
 same_id_is a b e =
-    let parts = both (a.client == b.client) (a.serial == b.serial) e in
+    let parts = both (nat_eq a.client b.client) (nat_eq a.serial b.serial) e in
     let client : a.client ≡ b.client = grind (arith, nat_tests, parts.0) in
     let serial : a.serial ≡ b.serial = grind (arith, nat_tests, parts.1) in
     λ i. record { client = client i; serial = serial i }

@@ -13,16 +13,12 @@ use Rattle.pgs_request.specs.declared.answers.CollectAnswer.TheVariants.{Unknown
 use Rattle.pgs_op.specs.Effects.{first, refusal_of}
 use Rattle.pgs_op.specs.declared.write.Write.{Write}
 use Rattle.pgs_history.specs.Log.{clean, held, log, ids, log_bytes}
-use Rattle.pgs_history.specs.Members.{same_id, pulled, told}
+use Rattle.pgs_op_log.specs.Logs.{version_in}
+use Rattle.pgs_history.specs.Members.{pulled, told}
 use Rattle.pgs_history.specs.declared.event.Event.{Event}
 use Rattle.pgs_history.specs.declared.made.Made.{Made}
 
 -- ---- submit
-
--- the version that an id has among these
-abbrev pub version_in : List (ReqId × Version) → ReqId → Option Version
-version_in [] id = None
-version_in (entry ∷ entries) id = if same_id entry.0 id then Some entry.1 else version_in entries id
 
 -- why a write makes no effects
 abbrev pub refused : List Event → Write → Option Refusal

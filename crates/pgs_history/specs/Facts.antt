@@ -3,13 +3,7 @@ use Rattle.std.specs.Prelude.{ℕ, ◌≡◌, ◌≤◌, ◌+◌, nat_le, List, 
 use Rattle.pgs_request.specs.declared.req_id.ReqId.{ReqId}
 use Rattle.pgs_request.specs.declared.version.Version.{Version}
 use Rattle.pgs_medium.specs.declared.item.Item.{Item}
-use Rattle.pgs_history.specs.Members.{same_id}
-use Rattle.pgs_history.specs.Answers.{version_in}
-
--- the items have the numbers from 1 on, without a gap
-abbrev pub AreNumbered : List Item → Type 0
-AreNumbered [] = Unit {0}
-AreNumbered (item ∷ items) = (item.number ≡ length items + 1) × AreNumbered items
+use Rattle.pgs_op_log.specs.Logs.{same_id, version_in}
 
 -- no id stands twice
 abbrev pub AreDistinct : List (ReqId × Version) → Type 0
@@ -24,8 +18,3 @@ times entries id = count_by (λ entry. same_id entry.0 id) entries
 abbrev pub upto : ℕ → List Item → List Item
 upto number [] = []
 upto number (item ∷ items) = if nat_le item.number number then item ∷ items else upto number items
-
--- the items above a number
-abbrev pub newer : ℕ → List Item → List Item
-newer number [] = []
-newer number (item ∷ items) = if nat_le item.number number then [] else item ∷ newer number items

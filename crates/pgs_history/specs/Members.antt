@@ -1,6 +1,7 @@
 -- How far the members of a group are, by its events, the newest first.
 use Rattle.std.specs.Prelude.{ℕ, ◌==◌, ◌&&◌, ◌||◌, Bool, true, false, max, List, [], ◌∷◌, if◌then◌else◌}
 use Rattle.pgs_request.specs.declared.req_id.ReqId.{ReqId}
+use Rattle.pgs_op_log.specs.Logs.{same_id}
 use Rattle.pgs_history.specs.declared.event.Event.{Event}
 use Rattle.pgs_history.specs.declared.event.Event.TheVariants.{Collect, Pull, Tell}
 
@@ -21,10 +22,6 @@ told_after event osd count = count
 abbrev pub told : List Event → ℕ → ℕ
 told [] osd = 0
 told (event ∷ past) osd = told_after event osd (told past osd)
-
--- whether two ids are the same
-abbrev pub same_id : ReqId → ReqId → Bool
-same_id a b = (a.client == b.client) && (a.serial == b.serial)
 
 abbrev pub collected_after : Event → ReqId → Bool → Bool
 collected_after (Collect other version) id before = same_id other id || before

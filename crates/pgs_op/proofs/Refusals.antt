@@ -1,13 +1,13 @@
 -- What is not refused keeps the store within its bounds.
-use Rattle.std.proofs.Common.{ℕ, ◌≡◌, ◌≤◌, Bool, true, false, List, [], ◌∷◌, refl, arith}
-use Rattle.std.specs.Prelude.{Option, Some, None, nat_lt, ◌+◌}
+use Rattle.std.proofs.Common.{ℕ, ◌≡◌, ◌≤◌, Bool, true, false, [], ◌∷◌, refl, arith}
+use Rattle.std.specs.Prelude.{Option, None, nat_lt}
 use Rattle.std.proofs.lemmas.Bool.Decides.{nat_tests}
 use Rattle.std.specs.Bool.{then_some}
 use Rattle.pgs_copy.specs.declared.obj_copy.ObjCopy.{ObjCopy}
 use Rattle.pgs_request.specs.declared.op.Op.{Op}
 use Rattle.pgs_request.specs.declared.answers.Refusal.{Refusal}
-use Rattle.pgs_op.specs.Effects.{refusal_of, held_after, first, size_after, payload_size}
-use Rattle.pgs_op.specs.declared.limits.TheConstants.{OBJECT_MAX, STORE_MAX, LOG_MAX}
+use Rattle.pgs_op.specs.Effects.{refusal_of, held_after, first}
+use Rattle.pgs_op.specs.declared.limits.TheConstants.{STORE_MAX}
 
 second_fails : (a b c : Bool) (p q r : Refusal) → first (then_some a p ∷ then_some b q ∷ then_some c r ∷ []) ≡ None → b ≡ false
 second_fails a false c p q r e = refl

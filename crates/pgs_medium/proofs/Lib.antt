@@ -1,0 +1,2 @@
+-- Laws of devices.
+pub mod Devices

@@ -1,0 +1,3 @@
+-- Logs of items.
+pub mod Logs
+pub mod Kept
