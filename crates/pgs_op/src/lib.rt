@@ -12,5 +12,6 @@ mod write_error;
 pub use clean_store::CleanStore;
 pub use limits::{LOG_MAX, OBJECT_MAX, STORE_MAX};
 pub use making::make_effects;
+pub use sizes::counted_size;
 pub use write::Write;
 pub use write_error::WriteError;

@@ -1,0 +1,3 @@
+-- How a group is seen.
+pub mod Counts
+pub mod Tied

@@ -1,0 +1,11 @@
+//! A group: its steps, each answered by what happened before, and its history.
+#![tactic(auto)]
+
+mod accepting;
+mod counts;
+mod group;
+mod pulled;
+
+pub use counts::Counts;
+pub use group::Group;
+pub use pulled::Pulled;
