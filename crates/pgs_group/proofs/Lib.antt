@@ -1,2 +1,3 @@
 -- Laws of groups.
 pub mod Accepted
+pub mod Finds

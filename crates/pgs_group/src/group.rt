@@ -1,18 +1,23 @@
-ghost use Rattle.std.specs.Prelude.{◌≡◌, ◌<◌, ◌^◌, [], ◌∷◌, nat_lt, length, reverse, find, IfOk, OnOk, OnErr};
-ghost use Rattle.pgs_op_log.specs.Logs.{newer};
-ghost use Rattle.pgs_history.specs.Log.{log};
-ghost use Rattle.pgs_history.specs.Members.{pulled};
-ghost use Rattle.pgs_history.specs.Answers.{submit_answer, collect_answer, last_number, tell_answer};
+ghost use Rattle.std.specs.Prelude.{◌≡◌, [], reverse, slice_get, IfOk, OnOk, OnErr};
+ghost use Rattle.pgs_history.specs.Answers.{submit_answer, behind, collect_answer, tell_answer};
 ghost use Rattle.pgs_history.specs.After.{after_submit, after_collect, after_pull, after_tell};
-ghost use Rattle.pgs_group.specs.Counts.{count_of};
+ghost use Rattle.pgs_history.specs.Log.{clean, families, log};
+ghost use Rattle.pgs_name.specs.declared.object_id.TheConstants.{HEAD};
+ghost use Rattle.std.specs.Option.{option_copied};
+ghost use Rattle.pgs_group.specs.Steps.{pull_answer, answer_of, after};
 
 use crate::accepting::accept;
+use crate::behind::first_behind;
 use crate::counts::Counts;
 use crate::pulled::Pulled;
+use crate::step::{Answer, Step};
+use pgs_copy::ObjCopy;
 use pgs_history::{Event, Made};
+use pgs_name::Family;
 use pgs_op::{CleanStore, Write, WriteError, make_effects};
 use pgs_op_log::GroupLog;
 use pgs_request::{CollectAnswer, Declined, ReqId, Version, WriteAnswer};
+use sqlite_items::Items;
 use std::alloc::{AllocError, Global};
 use std::collections::HashSet;
 use std::marker::Model;
@@ -105,9 +110,7 @@ impl Group {
 
     /// Tells a member the items of the log that it didn't pull yet.
     pub fn pull(&mut self, osd: u32) -> Result<Pulled, AllocError>
-        ensures from { IfOk result (λ p. p.from ≡ pulled self.old.past osd) }
-        ensures to { IfOk result (λ p. p.to ≡ last_number self.old.past) }
-        ensures items { IfOk result (λ p. p.items ≡ reverse (newer (pulled self.old.past osd) (log self.old.past))) }
+        ensures answer { IfOk result (λ p. p ≡ pull_answer self.old.past osd) }
         ensures kept { OnOk result (self.new ≡ record self.old { past = after_pull self.old.past osd }) }
         ensures err { OnErr result (self.new ≡ self.old) }
     {
@@ -137,5 +140,100 @@ impl Group {
         self.told.raise(osd, applied)?;
         self.events.push_reserved(Event::Tell { osd, applied });
         Ok(applied)
+    }
+
+    // The first acting OSD that told of less than a number.
+    #[tactic(auto, using(crate::proofs::Finds::behind_is))]
+    fn behind(&self, number: u64) -> Option<u32>
+        ensures { result ≡ behind self.now.made self.now.past number }
+    {
+        first_behind(self.made.members.as_slice(), &self.told, number)
+    }
+
+    // The outcome of a request.
+    fn outcome(&self, id: ReqId) -> CollectAnswer
+        ensures { result ≡ collect_answer self.now.made self.now.past id }
+    {
+        let Some(version) = self.log.version_of(id) else {
+            return CollectAnswer::Unknown;
+        };
+        if let Some(osd) = self.behind(version.number) {
+            let told = self.told.get(osd);
+            return CollectAnswer::NotYet { osd, told };
+        }
+        CollectAnswer::Acked { version }
+    }
+
+    /// The outcome of a request. The first time that a client learns of an acknowledgement is kept.
+    pub fn collect(&mut self, id: ReqId) -> Result<CollectAnswer, AllocError>
+        ensures answer { IfOk result (λ a. a ≡ collect_answer self.old.made self.old.past id) }
+        ensures kept { OnOk result (self.new ≡ record self.old { past = after_collect self.old.made self.old.past id }) }
+        ensures err { OnErr result (self.new ≡ self.old) }
+    {
+        let answer = self.outcome(id);
+        let CollectAnswer::Acked { version } = answer else {
+            return Ok(answer);
+        };
+        if self.collected.contains(&id) {
+            return Ok(answer);
+        }
+        self.events.reserve(1)?;
+        self.collected.insert(id)?;
+        self.events.push_reserved(Event::Collect { id, version });
+        Ok(answer)
+    }
+
+    /// Makes a step of any kind.
+    pub fn step(&mut self, step: Step) -> Result<Answer, AllocError>
+        ensures answer { IfOk result (λ a. a ≡ answer_of self.old step) }
+        ensures kept { OnOk result (self.new ≡ after self.old step) }
+        ensures err { OnErr result (self.new ≡ self.old) }
+    {
+        match step {
+            Step::Submit { write } => {
+                let answer = self.submit(write)?;
+                Ok(Answer::Submit { answer })
+            }
+            Step::Collect { id } => {
+                let answer = self.collect(id)?;
+                Ok(Answer::Collect { answer })
+            }
+            Step::Pull { osd } => {
+                let pulled = self.pull(osd)?;
+                Ok(Answer::Pull { pulled })
+            }
+            Step::Tell { osd, applied } => {
+                let applied = self.tell(osd, applied)?;
+                Ok(Answer::Tell { applied })
+            }
+        }
+    }
+
+    /// What it was made with.
+    pub fn made(&self) -> &Made
+        ensures { result.now ≡ self.now.made }
+    {
+        &self.made
+    }
+
+    /// The family at a place, in the order of the first writes, from 0.
+    pub fn family_at(&self, at: usize) -> Option<&Family>
+        ensures { option_copied result ≡ slice_get (families (log self.now.past)) at }
+    {
+        self.clean.family_at(at)
+    }
+
+    /// The head of a family as the accepted writes alone make it.
+    pub fn clean_head(&self, family: &Family) -> Option<&ObjCopy>
+        ensures { option_copied result ≡ clean (log self.now.past) family.now HEAD }
+    {
+        self.clean.head(family)
+    }
+
+    /// Its events, the oldest first.
+    pub fn into_events(self) -> Items<Event>
+        ensures { reverse result ≡ self.past }
+    {
+        Items::from_vec(self.events)
     }
 }
