@@ -78,3 +78,15 @@ line_of words = join_with_byte 32 words ++ 10 ∷ []
 
 abbrev pub done_line : Done → List ℕ
 done_line done = line_of (step_words done ++ codes ":" ∷ answer_words done)
+
+-- ---- words as they are appended
+
+-- each word behind a space
+abbrev pub behind : List (List ℕ) → List ℕ
+behind [] = []
+behind (w ∷ ws) = 32 ∷ w ++ behind ws
+
+-- the first word, and the others behind a space each
+abbrev pub begins : List (List ℕ) → List ℕ
+begins [] = []
+begins (w ∷ ws) = w ++ behind ws
