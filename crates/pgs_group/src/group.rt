@@ -1,5 +1,6 @@
 ghost use Rattle.std.specs.Prelude.{◌≡◌, [], reverse, slice_get, IfOk, OnOk, OnErr};
 ghost use Rattle.pgs_history.specs.Answers.{submit_answer, behind, collect_answer, tell_answer};
+ghost use Rattle.pgs_history.specs.Legal.{IsLegal};
 ghost use Rattle.pgs_history.specs.After.{after_submit, after_collect, after_pull, after_tell};
 ghost use Rattle.pgs_history.specs.Log.{clean, families, log};
 ghost use Rattle.pgs_name.specs.declared.object_id.TheConstants.{HEAD};
@@ -65,11 +66,12 @@ impl Group {
         }
     }
     /// Answers a client's write, and appends it to the log where it is accepted.
-    #[tactic(auto, using(pgs_op::proofs::Refusals::log_within), unfolding(pgs_history::specs::Answers::declined))]
+    #[tactic(auto, using(pgs_op::proofs::Refusals::log_within, pgs_history::proofs::Legal::legal_submit), unfolding(pgs_history::specs::Answers::declined))]
     pub fn submit(&mut self, write: Write) -> Result<WriteAnswer, AllocError>
         ensures answer { IfOk result (λ a. a ≡ submit_answer self.old.made self.old.past write) }
         ensures kept { OnOk result (self.new ≡ record self.old { past = after_submit self.old.made self.old.past write }) }
         ensures err { OnErr result (self.new ≡ self.old) }
+        ensures legal { IsLegal self.old.made self.old.past → IsLegal self.new.made self.new.past }
     {
         self.events.reserve(1)?;
         if let Some(version) = self.log.version_of(write.id) {
@@ -109,10 +111,12 @@ impl Group {
     }
 
     /// Tells a member the items of the log that it didn't pull yet.
+    #[tactic(auto, using(pgs_history::proofs::Legal::legal_pull))]
     pub fn pull(&mut self, osd: u32) -> Result<Pulled, AllocError>
         ensures answer { IfOk result (λ p. p ≡ pull_answer self.old.past osd) }
         ensures kept { OnOk result (self.new ≡ record self.old { past = after_pull self.old.past osd }) }
         ensures err { OnErr result (self.new ≡ self.old) }
+        ensures legal { IsLegal self.old.made self.old.past → IsLegal self.new.made self.new.past }
     {
         let from = self.pulled.get(osd);
         let to = self.log.len();
@@ -127,10 +131,12 @@ impl Group {
     }
 
     /// Notes that a member applied the log up to a number, and answers the greatest that it told.
+    #[tactic(auto, using(pgs_history::proofs::Legal::legal_tell))]
     pub fn tell(&mut self, osd: u32, applied: u64) -> Result<u64, AllocError>
         ensures answer { IfOk result (λ count. count ≡ tell_answer self.old.past osd applied) }
         ensures kept { OnOk result (self.new ≡ record self.old { past = after_tell self.old.past osd applied }) }
         ensures err { OnErr result (self.new ≡ self.old) }
+        ensures legal { IsLegal self.old.made self.old.past → IsLegal self.new.made self.new.past }
     {
         let before = self.told.get(osd);
         if applied <= before {
@@ -165,10 +171,12 @@ impl Group {
     }
 
     /// The outcome of a request. The first time that a client learns of an acknowledgement is kept.
+    #[tactic(auto, using(pgs_history::proofs::Legal::legal_collect))]
     pub fn collect(&mut self, id: ReqId) -> Result<CollectAnswer, AllocError>
         ensures answer { IfOk result (λ a. a ≡ collect_answer self.old.made self.old.past id) }
         ensures kept { OnOk result (self.new ≡ record self.old { past = after_collect self.old.made self.old.past id }) }
         ensures err { OnErr result (self.new ≡ self.old) }
+        ensures legal { IsLegal self.old.made self.old.past → IsLegal self.new.made self.new.past }
     {
         let answer = self.outcome(id);
         let CollectAnswer::Acked { version } = answer else {
@@ -188,6 +196,7 @@ impl Group {
         ensures answer { IfOk result (λ a. a ≡ answer_of self.old step) }
         ensures kept { OnOk result (self.new ≡ after self.old step) }
         ensures err { OnErr result (self.new ≡ self.old) }
+        ensures legal { IsLegal self.old.made self.old.past → IsLegal self.new.made self.new.past }
     {
         match step {
             Step::Submit { write } => {

@@ -1,3 +1,4 @@
 -- Laws of lines.
 pub mod Fronts
 pub mod LineLaws
+pub mod Behind

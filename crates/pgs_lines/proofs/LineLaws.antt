@@ -1,27 +1,34 @@
 -- Each line is read as it is spelled, and spelled as it is read.
-use Rattle.std.proofs.Common.{◌≡◌, ℕ, ◌==◌, true, false, [], ◌∷◌, Some, refl, ◌∙◌, ap, subst, arith}
+use Rattle.std.proofs.Common.{◌≡◌, ℕ, ◌^◌, ◌==◌, true, false, List, [], ◌∷◌, Some, refl, ◌∙◌, ap, subst, arith}
 use Rattle.std.specs.Prelude.{option_map, codes}
 use Rattle.std.specs.List.{list_all}
 use Rattle.std.proofs.lemmas.Bool.Decides.{nat_tests}
-use Rattle.pgs_words.specs.Forms.{Form, fronted, itself, field, last, word_then, nothing, each, has_some, no_row, read_rows}
+use Rattle.pgs_words.specs.Forms.{Form, field, last, word_then, nothing, each, has_some, no_row, read_rows, after_front}
 use Rattle.pgs_words.specs.Fields.{number, positive, positive_byte, is_plain, plain_byte, dash}
+use Rattle.pgs_words.specs.Hex.{hex, hex_byte}
 use Rattle.pgs_words.proofs.Laws.{FieldLaws, FormLaws, mapped_of}
-use Rattle.pgs_words.proofs.FormLaws.{nothing_laws, field_laws, last_laws, word_then_laws, each_laws, such_form_laws, itself_laws, seen_field_laws, fronted_laws, parts_laws}
+use Rattle.pgs_words.proofs.FormLaws.{weaker, nothing_laws, field_laws, last_laws, word_then_laws, each_laws, such_form_laws, itself_laws, parts_laws}
 use Rattle.pgs_words.proofs.KindLaws.{IsKind, IsSpelled, kind_of, FindsSpelled, row_finds, no_row_finds, by_rows_finds, kinds_laws, keyword_laws}
-use Rattle.pgs_words.proofs.FieldLaws.{word_of_laws, dash_or_laws, number_word, positive_word, positive_byte_word}
-use Rattle.pgs_lines.specs.Objects.{bytes_of, payload, last_payload, op_said, op_rows, op_read, op, flip_form, damage_said, damage_rows, damage_read, damage, snap_word, snap, kind_word, kind, space, key, name, named}
-use Rattle.pgs_lines.specs.Steps.{write_form, write_of, damage_form, damage_of, sweep_form, step_said, step_rows, step_read}
+use Rattle.pgs_words.proofs.FrontLaws.{IsWriting, IsWritten, front_of, front_finds, by_fronts_finds, fronts_laws}
+use Rattle.pgs_words.proofs.FieldLaws.{is_digit, number_laws, word_of_laws, dash_or_laws, number_word, positive_word, positive_byte_word}
+use Rattle.pgs_words.proofs.HexLaws.{is_hex_digit, hex_plain, hex_laws, hex_byte_laws}
+use Rattle.pgs_request.specs.declared.payload.Payload.{Payload}
+use Rattle.pgs_request.specs.declared.payload.Payload.TheVariants.{Text, Hex, Fill}
+use Rattle.pgs_request.specs.declared.op.Op.{Op}
+use Rattle.pgs_request.specs.declared.op.Op.TheVariants.{Full}
+use Rattle.pgs_lines.specs.Payload.{plain, filled, payload_said, payload_fronts, payload_read, payload}
+use Rattle.pgs_lines.specs.Objects.{last_payload, op_said, op_rows, op_read, op, flip_form, damage_said, damage_rows, damage_read, damage, snap_word, snap, kind_word, kind, space, key, name, named}
+use Rattle.pgs_lines.specs.Basics.{write_form, write_of, collect_form, member_form, damage_form, damage_of, basic_said, basic_rows, basic_read}
+use Rattle.pgs_lines.specs.Steps.{sweep_form, step_said, step_rows, basic_step_read, step_read}
 use Rattle.pgs_lines.specs.Lines.{osd_form, members_form, group_form, line_said, line_rows, step_line_read, line_read, line_form, line, in_line}
-use Rattle.pgs_lines.specs.declared.payload.Payload.{Payload}
-use Rattle.pgs_lines.specs.declared.payload.Payload.TheVariants.{Text}
-use Rattle.pgs_lines.specs.declared.op.Op.{Op}
-use Rattle.pgs_lines.specs.declared.op.Op.TheVariants.{Full}
 use Rattle.pgs_lines.specs.declared.damage.Damage.{Damage}
 use Rattle.pgs_lines.specs.declared.damage.Damage.TheVariants.{Flip}
 use Rattle.pgs_lines.specs.declared.kind.Kind.{Kind}
 use Rattle.pgs_lines.specs.declared.kind.Kind.TheVariants.{Deep}
 use Rattle.pgs_lines.specs.declared.snap.Snap.{Snap}
 use Rattle.pgs_lines.specs.declared.snap.Snap.TheVariants.{Head}
+use Rattle.pgs_lines.specs.declared.basic.Basic.{Basic}
+use Rattle.pgs_lines.specs.declared.basic.Basic.TheVariants as basics
 use Rattle.pgs_lines.specs.declared.step.Step.{Step}
 use Rattle.pgs_lines.specs.declared.step.Step.TheVariants as steps
 use Rattle.pgs_lines.specs.declared.line.Line.{Line}
@@ -29,15 +36,46 @@ use Rattle.pgs_lines.specs.declared.line.Line.TheVariants as lines
 
 -- ---- payloads
 
-payload_back : (x : Payload) → Text (bytes_of x) ≡ x
-payload_back (Text bytes) = refl
-
-plain_laws : FieldLaws plain_byte (itself is_plain)
+plain_laws : FieldLaws plain_byte plain
 plain_laws = itself_laws plain_byte is_plain (λ w e. e)
 
+hex_word : FieldLaws plain_byte hex
+hex_word = weaker is_hex_digit plain_byte hex hex_plain hex_laws
+
+digit_is_hex : (b : ℕ) → is_digit b ≡ true → is_hex_digit b ≡ true
+digit_is_hex b e = grind (arith, nat_tests)
+
+no_colon : (b : ℕ) → is_hex_digit b ≡ true → (b == 58) ≡ false
+no_colon b e = grind (arith, nat_tests)
+
+number_hex : FieldLaws is_hex_digit number
+number_hex = weaker is_digit is_hex_digit number digit_is_hex (number_laws (2 ^ 32) (omega arith) (omega arith))
+
+filled_laws : FieldLaws plain_byte filled
+filled_laws = parts_laws is_hex_digit plain_byte 58 (field number (last hex_byte))
+    (field_laws is_hex_digit number (last hex_byte) number_hex (last_laws is_hex_digit hex_byte hex_byte_laws)) no_colon hex_plain refl (λ x e. refl)
+
+payload_kind : (x : Payload) → IsWriting plain_byte payload_read (payload_said x) x
+unfolding payload_read payload_fronts after_front
+payload_kind (Text bytes) = front_of plain_byte payload_read (codes "text:") plain (λ x. Text x) plain_laws (λ w. refl) refl bytes
+payload_kind (Hex bytes) = front_of plain_byte payload_read (codes "hex:") hex (λ x. Hex x) hex_word (λ w. refl) refl bytes
+payload_kind (Fill count byte) = front_of plain_byte payload_read (codes "fill:") filled (λ x. Fill x.0 x.1) filled_laws (λ w. refl) refl (count, byte)
+
+payload_finds : (w : List ℕ) (x : Payload) → payload_read w ≡ Some x → IsWritten payload_said w x
+unfolding payload_read payload_fronts
+payload_finds = by_fronts_finds payload_said payload_fronts (
+  front_finds plain_byte payload_said (codes "text:") plain (λ x. Text x) plain_laws (λ y. refl),
+  (
+    front_finds plain_byte payload_said (codes "hex:") hex (λ x. Hex x) hex_word (λ y. refl),
+    (
+      front_finds plain_byte payload_said (codes "fill:") filled (λ x. Fill x.0 x.1) filled_laws (λ y. refl),
+      tt,
+    ),
+  ),
+)
+
 payload_laws : FieldLaws plain_byte payload
-payload_laws = seen_field_laws plain_byte (λ bytes. Text bytes) bytes_of (fronted (codes "text:") (itself is_plain))
-    (fronted_laws plain_byte (codes "text:") (itself is_plain) refl plain_laws) payload_back (λ bytes. refl)
+payload_laws = fronts_laws plain_byte payload_said payload_read payload_kind payload_finds
 
 -- ---- what a write does
 
@@ -92,7 +130,13 @@ kind_keeps Deep = refl
 kind_laws : FieldLaws plain_byte kind
 kind_laws = keyword_laws plain_byte kind_word ((codes "deep", Deep) ∷ []) (refl, tt) kind_again kind_keeps
 
--- ---- steps
+-- ---- steps that do one thing
+
+settle_laws : FormLaws plain_byte (last number)
+settle_laws = last_laws plain_byte number number_word
+
+member_laws : FormLaws plain_byte member_form
+member_laws = field_laws plain_byte number (last number) number_word settle_laws
 
 named_laws : {B : Type 0} (b : Form B) → FormLaws plain_byte b → FormLaws plain_byte (named b)
 named_laws b laws = field_laws plain_byte space (field key (field name b)) (dash_or_laws 64)
@@ -103,44 +147,96 @@ write_laws = field_laws plain_byte number (field number (named (word_then dash o
     (field_laws plain_byte number (named (word_then dash op)) number_word
     (named_laws (word_then dash op) (word_then_laws plain_byte dash op refl op_laws)))
 
+collect_laws : FormLaws plain_byte collect_form
+collect_laws = field_laws plain_byte number (field number (last number)) number_word member_laws
+
 damage_form_laws : FormLaws plain_byte damage_form
 damage_form_laws = field_laws plain_byte number (field number (named (field snap damage))) number_word
     (field_laws plain_byte number (named (field snap damage)) number_word
     (named_laws (field snap damage) (field_laws plain_byte snap damage snap_laws damage_laws)))
 
-sweep_laws : FormLaws plain_byte sweep_form
-sweep_laws = field_laws plain_byte number (last kind) number_word (last_laws plain_byte kind kind_laws)
+basic_kind : (x : Basic) → IsKind plain_byte basic_read (basic_said x) x
+unfolding basic_read basic_rows
+basic_kind (basics.Write client serial o p) =
+    kind_of plain_byte basic_read (codes "write") write_form write_of write_laws (λ ws. refl) refl (client, (serial, (o.space, (o.key, (o.name, p)))))
+basic_kind (basics.Collect group client serial) =
+    kind_of plain_byte basic_read (codes "collect") collect_form (λ x. basics.Collect x.0 x.1.0 x.1.1) collect_laws (λ ws. refl) refl (group, (client, serial))
+basic_kind (basics.Pull group osd) =
+    kind_of plain_byte basic_read (codes "pull") member_form (λ x. basics.Pull x.0 x.1) member_laws (λ ws. refl) refl (group, osd)
+basic_kind (basics.Apply group osd) =
+    kind_of plain_byte basic_read (codes "apply") member_form (λ x. basics.Apply x.0 x.1) member_laws (λ ws. refl) refl (group, osd)
+basic_kind (basics.Tell group osd) =
+    kind_of plain_byte basic_read (codes "tell") member_form (λ x. basics.Tell x.0 x.1) member_laws (λ ws. refl) refl (group, osd)
+basic_kind (basics.Damage group osd o s d) =
+    kind_of plain_byte basic_read (codes "damage") damage_form damage_of damage_form_laws (λ ws. refl) refl (group, (osd, (o.space, (o.key, (o.name, (s, d))))))
 
-settle_laws : FormLaws plain_byte (last number)
-settle_laws = last_laws plain_byte number number_word
-
-step_kind : (x : Step) → IsKind plain_byte step_read (step_said x) x
-unfolding step_read step_rows
-step_kind (steps.Write client serial o p) =
-    kind_of plain_byte step_read (codes "write") write_form write_of write_laws (λ ws. refl) refl (client, (serial, (o.space, (o.key, (o.name, p)))))
-step_kind (steps.Settle group) =
-    kind_of plain_byte step_read (codes "settle") (last number) (λ x. steps.Settle x) settle_laws (λ ws. refl) refl group
-step_kind (steps.Damage group osd o s d) =
-    kind_of plain_byte step_read (codes "damage") damage_form damage_of damage_form_laws (λ ws. refl) refl (group, (osd, (o.space, (o.key, (o.name, (s, d))))))
-step_kind (steps.Sweep group k) =
-    kind_of plain_byte step_read (codes "sweep") sweep_form (λ x. steps.Sweep x.0 x.1) sweep_laws (λ ws. refl) refl (group, k)
-
-step_finds : FindsSpelled step_said step_read
-unfolding step_read step_rows
-step_finds = by_rows_finds step_said step_rows no_row (
-  row_finds plain_byte step_said (codes "write") write_form write_of write_laws (λ y. refl),
+basic_finds : FindsSpelled basic_said basic_read
+unfolding basic_read basic_rows
+basic_finds = by_rows_finds basic_said basic_rows no_row (
+  row_finds plain_byte basic_said (codes "write") write_form write_of write_laws (λ y. refl),
   (
-    row_finds plain_byte step_said (codes "settle") (last number) (λ x. steps.Settle x) settle_laws (λ y. refl),
+    row_finds plain_byte basic_said (codes "collect") collect_form (λ x. basics.Collect x.0 x.1.0 x.1.1) collect_laws (λ y. refl),
     (
-      row_finds plain_byte step_said (codes "damage") damage_form damage_of damage_form_laws (λ y. refl),
+      row_finds plain_byte basic_said (codes "pull") member_form (λ x. basics.Pull x.0 x.1) member_laws (λ y. refl),
       (
-        row_finds plain_byte step_said (codes "sweep") sweep_form (λ x. steps.Sweep x.0 x.1) sweep_laws (λ y. refl),
-        tt,
+        row_finds plain_byte basic_said (codes "apply") member_form (λ x. basics.Apply x.0 x.1) member_laws (λ y. refl),
+        (
+          row_finds plain_byte basic_said (codes "tell") member_form (λ x. basics.Tell x.0 x.1) member_laws (λ y. refl),
+          (
+            row_finds plain_byte basic_said (codes "damage") damage_form damage_of damage_form_laws (λ y. refl),
+            tt,
+          ),
+        ),
       ),
     ),
   ),
 )
-    (no_row_finds step_said)
+    (no_row_finds basic_said)
+
+-- ---- steps
+
+sweep_laws : FormLaws plain_byte sweep_form
+sweep_laws = field_laws plain_byte number (last kind) number_word (last_laws plain_byte kind kind_laws)
+
+-- the word of a basic step is that of no other step
+basic_passed_on : (b : Basic) → read_rows step_read (basic_said b).words ≡ option_map (λ x. steps.Basic x) (read_rows basic_read (basic_said b).words)
+unfolding step_read step_rows
+basic_passed_on (basics.Write client serial o p) = refl
+basic_passed_on (basics.Collect group client serial) = refl
+basic_passed_on (basics.Pull group osd) = refl
+basic_passed_on (basics.Apply group osd) = refl
+basic_passed_on (basics.Tell group osd) = refl
+basic_passed_on (basics.Damage group osd o s d) = refl
+
+basic_step_kind : (b : Basic) → IsKind plain_byte basic_read (basic_said b) b → IsKind plain_byte step_read (basic_said b) (steps.Basic b)
+basic_step_kind b k = record {
+  again = λ e. basic_passed_on b ∙ ap (option_map (λ x. steps.Basic x)) (k.again e);
+  keeps = k.keeps;
+}
+
+step_kind : (x : Step) → IsKind plain_byte step_read (step_said x) x
+unfolding step_read step_rows
+step_kind (steps.Basic b) = basic_step_kind b (basic_kind b)
+step_kind (steps.Settle group) =
+    kind_of plain_byte step_read (codes "settle") (last number) (λ x. steps.Settle x) settle_laws (λ ws. refl) refl group
+step_kind (steps.Sweep group k) =
+    kind_of plain_byte step_read (codes "sweep") sweep_form (λ x. steps.Sweep x.0 x.1) sweep_laws (λ ws. refl) refl (group, k)
+
+basic_step_finds : FindsSpelled step_said basic_step_read
+basic_step_finds word ws x e =
+    let m = mapped_of (λ b. steps.Basic b) (basic_read word ws) x e in
+    subst (λ y. IsSpelled step_said (word ∷ ws) y) m.maps (basic_finds word ws m.value m.is)
+
+step_finds : FindsSpelled step_said step_read
+unfolding step_read step_rows
+step_finds = by_rows_finds step_said step_rows basic_step_read (
+  row_finds plain_byte step_said (codes "settle") (last number) (λ x. steps.Settle x) settle_laws (λ y. refl),
+  (
+    row_finds plain_byte step_said (codes "sweep") sweep_form (λ x. steps.Sweep x.0 x.1) sweep_laws (λ y. refl),
+    tt,
+  ),
+)
+    basic_step_finds
 
 -- ---- lines
 
@@ -154,11 +250,19 @@ group_laws : FormLaws plain_byte group_form
 group_laws = field_laws plain_byte number (field positive members_form) number_word (field_laws plain_byte positive members_form positive_word members_laws)
 
 -- the word of a step is that of no other line
+basic_line_passed_on : (b : Basic) → read_rows line_read (basic_said b).words ≡ option_map (λ x. lines.Step x) (read_rows step_read (basic_said b).words)
+unfolding line_read line_rows
+basic_line_passed_on (basics.Write client serial o p) = refl
+basic_line_passed_on (basics.Collect group client serial) = refl
+basic_line_passed_on (basics.Pull group osd) = refl
+basic_line_passed_on (basics.Apply group osd) = refl
+basic_line_passed_on (basics.Tell group osd) = refl
+basic_line_passed_on (basics.Damage group osd o s d) = refl
+
 step_passed_on : (s : Step) → read_rows line_read (step_said s).words ≡ option_map (λ x. lines.Step x) (read_rows step_read (step_said s).words)
 unfolding line_read line_rows
-step_passed_on (steps.Write client serial o p) = refl
+step_passed_on (steps.Basic b) = basic_line_passed_on b
 step_passed_on (steps.Settle group) = refl
-step_passed_on (steps.Damage group osd o s d) = refl
 step_passed_on (steps.Sweep group k) = refl
 
 step_line_kind : (s : Step) → IsKind plain_byte step_read (step_said s) s → IsKind plain_byte line_read (step_said s) (lines.Step s)
@@ -201,10 +305,17 @@ line_finds = by_rows_finds line_said line_rows step_line_read (
 line_form_laws : FormLaws plain_byte line_form
 line_form_laws = kinds_laws plain_byte line_said line_read line_kind line_finds
 
+pub basic_has_some : (b : Basic) → has_some (basic_said b).words ≡ true
+basic_has_some (basics.Write client serial o p) = refl
+basic_has_some (basics.Collect group client serial) = refl
+basic_has_some (basics.Pull group osd) = refl
+basic_has_some (basics.Apply group osd) = refl
+basic_has_some (basics.Tell group osd) = refl
+basic_has_some (basics.Damage group osd o s d) = refl
+
 step_has_some : (s : Step) → has_some (step_said s).words ≡ true
-step_has_some (steps.Write client serial o p) = refl
+step_has_some (steps.Basic b) = basic_has_some b
 step_has_some (steps.Settle group) = refl
-step_has_some (steps.Damage group osd o s d) = refl
 step_has_some (steps.Sweep group k) = refl
 
 line_has_some : (x : Line) → line_form.fits x ≡ true → has_some (line_form.spell x) ≡ true

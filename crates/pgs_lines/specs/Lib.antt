@@ -1,4 +1,7 @@
--- How the lines of a script are spelled.
+-- How the lines of a script are spelled, and how what was done is printed.
+pub mod Payload
 pub mod Objects
+pub mod Basics
 pub mod Steps
 pub mod Lines
+pub mod Done

@@ -1,11 +1,11 @@
--- Payloads, what is done to objects, and the words that name an object.
+-- What is done to objects, and the words that name an object.
 use Rattle.std.specs.Prelude.{ℕ, List, [], ◌∷◌, Option, option_map, codes}
-use Rattle.pgs_words.specs.Forms.{Field, Form, Row, Spelling, fronted, itself, seen_field, field, last, kinds, said, row, by_rows, no_row, keyword}
-use Rattle.pgs_words.specs.Fields.{number, positive_byte, is_plain, word_of, dash_or}
-use Rattle.pgs_lines.specs.declared.payload.Payload.{Payload}
-use Rattle.pgs_lines.specs.declared.payload.Payload.TheVariants.{Text}
-use Rattle.pgs_lines.specs.declared.op.Op.{Op}
-use Rattle.pgs_lines.specs.declared.op.Op.TheVariants.{Full}
+use Rattle.pgs_words.specs.Forms.{Field, Form, Row, Spelling, field, last, kinds, said, row, by_rows, no_row, keyword}
+use Rattle.pgs_words.specs.Fields.{number, positive_byte, word_of, dash_or}
+use Rattle.pgs_request.specs.declared.payload.Payload.{Payload}
+use Rattle.pgs_request.specs.declared.op.Op.{Op}
+use Rattle.pgs_request.specs.declared.op.Op.TheVariants.{Full}
+use Rattle.pgs_lines.specs.Payload.{payload}
 use Rattle.pgs_lines.specs.declared.damage.Damage.{Damage}
 use Rattle.pgs_lines.specs.declared.damage.Damage.TheVariants.{Flip}
 use Rattle.pgs_lines.specs.declared.kind.Kind.{Kind}
@@ -13,20 +13,10 @@ use Rattle.pgs_lines.specs.declared.kind.Kind.TheVariants.{Deep}
 use Rattle.pgs_lines.specs.declared.snap.Snap.{Snap}
 use Rattle.pgs_lines.specs.declared.snap.Snap.TheVariants.{Head}
 
--- ---- payloads
-
--- the bytes that a payload stands for
-abbrev pub bytes_of : Payload → List ℕ
-bytes_of (Text bytes) = bytes
-
--- `text:` and any bytes of a word
-abbrev pub payload : Field Payload
-payload = seen_field (λ bytes. Text bytes) bytes_of (fronted (codes "text:") (itself is_plain))
+-- ---- what a write does
 
 abbrev pub last_payload : Form Payload
 last_payload = last payload
-
--- ---- what a write does
 
 abbrev pub op_said : Op → Spelling
 op_said (Full p) = said (codes "full") last_payload p

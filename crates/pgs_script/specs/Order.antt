@@ -1,10 +1,13 @@
 -- Which lines of a script may follow which.
 use Rattle.std.specs.Prelude.{ℕ, ◌==◌, ◌&&◌, ◌||◌, Bool, true, false, nat_lt, nat_le, List, [], ◌∷◌, ◌++◌, length, Some, None, is_some, is_none}
 use Rattle.pgs_words.specs.Forms.{same_text}
-use Rattle.pgs_lines.specs.Objects.{bytes_of}
 use Rattle.pgs_lines.specs.declared.object.Object.{Object}
-use Rattle.pgs_lines.specs.declared.op.Op.{Op}
-use Rattle.pgs_lines.specs.declared.op.Op.TheVariants.{Full}
+use Rattle.pgs_request.specs.declared.payload.Payload.{Payload}
+use Rattle.pgs_request.specs.declared.payload.Payload.TheVariants.{Text, Hex, Fill}
+use Rattle.pgs_request.specs.declared.op.Op.{Op}
+use Rattle.pgs_request.specs.declared.op.Op.TheVariants.{Full}
+use Rattle.pgs_lines.specs.declared.basic.Basic.{Basic}
+use Rattle.pgs_lines.specs.declared.basic.Basic.TheVariants as basics
 use Rattle.pgs_lines.specs.declared.step.Step.{Step}
 use Rattle.pgs_lines.specs.declared.step.Step.TheVariants as steps
 use Rattle.pgs_lines.specs.declared.line.Line.{Line}
@@ -35,16 +38,29 @@ same_numbers a b = same_text a b
 abbrev pub unplaced : Object → Bool
 unplaced object = (length object.space == 0) && (length object.key == 0)
 
--- a payload of at most 64 bytes
+-- a plain payload of at most 64 bytes
+abbrev pub is_short_payload : Payload → Bool
+is_short_payload (Text bytes) = nat_le (length bytes) 64
+is_short_payload (Hex bytes) = false
+is_short_payload (Fill count byte) = false
+
 abbrev pub is_short : Op → Bool
-is_short (Full payload) = nat_le (length (bytes_of payload)) 64
+is_short (Full payload) = is_short_payload payload
+
+-- the name of the object that a step writes
+abbrev pub name_of : Basic → List ℕ
+name_of (basics.Write client serial object op) = object.name
+name_of (basics.Collect group client serial) = []
+name_of (basics.Pull group osd) = []
+name_of (basics.Apply group osd) = []
+name_of (basics.Tell group osd) = []
+name_of (basics.Damage group osd object snap damage) = []
 
 -- the name of the object that the first step writes
 abbrev pub written_name : List Step → List ℕ
 written_name [] = []
-written_name (steps.Write client serial object op ∷ rest) = object.name
+written_name (steps.Basic basic ∷ rest) = name_of basic
 written_name (steps.Settle group ∷ rest) = []
-written_name (steps.Damage group osd object snap damage ∷ rest) = []
 written_name (steps.Sweep group kind ∷ rest) = []
 
 -- whether an object is the one that the first step writes
@@ -59,19 +75,34 @@ write_follows client serial object op = (client == 1) && (serial == 1) && unplac
 abbrev pub damage_follows : List Step → ℕ → ℕ → Object → Bool
 damage_follows said group osd object = nat_lt (length said) 5 && (group == 0) && nat_lt osd OSDS && unplaced object && is_written said object
 
+-- the step that is the write
+abbrev pub opens : Basic → Bool
+opens (basics.Write client serial object op) = write_follows client serial object op
+opens (basics.Collect group client serial) = false
+opens (basics.Pull group osd) = false
+opens (basics.Apply group osd) = false
+opens (basics.Tell group osd) = false
+opens (basics.Damage group osd object snap damage) = false
+
+-- the step that is a damage
+abbrev pub damages : List Step → Basic → Bool
+damages said (basics.Write client serial object op) = false
+damages said (basics.Collect group client serial) = false
+damages said (basics.Pull group osd) = false
+damages said (basics.Apply group osd) = false
+damages said (basics.Tell group osd) = false
+damages said (basics.Damage group osd object snap damage) = damage_follows said group osd object
+
 -- whether a step may follow such steps
 abbrev pub step_follows : Stage → List Step → Step → Bool
-step_follows stages.Opened said (steps.Write client serial object op) = write_follows client serial object op
+step_follows stages.Opened said (steps.Basic basic) = opens basic
 step_follows stages.Opened said (steps.Settle group) = false
-step_follows stages.Opened said (steps.Damage group osd object snap damage) = false
 step_follows stages.Opened said (steps.Sweep group kind) = false
-step_follows stages.Written said (steps.Write client serial object op) = false
+step_follows stages.Written said (steps.Basic basic) = false
 step_follows stages.Written said (steps.Settle group) = group == 0
-step_follows stages.Written said (steps.Damage group osd object snap damage) = false
 step_follows stages.Written said (steps.Sweep group kind) = false
-step_follows stages.Settled said (steps.Write client serial object op) = false
+step_follows stages.Settled said (steps.Basic basic) = damages said basic
 step_follows stages.Settled said (steps.Settle group) = false
-step_follows stages.Settled said (steps.Damage group osd object snap damage) = damage_follows said group osd object
 step_follows stages.Settled said (steps.Sweep group kind) = group == 0
 step_follows stages.Swept said step = false
 
@@ -107,10 +138,17 @@ passes s line = false
 
 -- ---- what was said with a line more
 
+abbrev pub basic_stage : Basic → Stage
+basic_stage (basics.Write client serial object op) = stages.Written
+basic_stage (basics.Collect group client serial) = stages.Settled
+basic_stage (basics.Pull group osd) = stages.Settled
+basic_stage (basics.Apply group osd) = stages.Settled
+basic_stage (basics.Tell group osd) = stages.Settled
+basic_stage (basics.Damage group osd object snap damage) = stages.Settled
+
 abbrev pub stage_after : Step → Stage
-stage_after (steps.Write client serial object op) = stages.Written
+stage_after (steps.Basic basic) = basic_stage basic
 stage_after (steps.Settle group) = stages.Settled
-stage_after (steps.Damage group osd object snap damage) = stages.Settled
 stage_after (steps.Sweep group kind) = stages.Swept
 
 abbrev pub after : StepScript → Line → StepScript

@@ -4,7 +4,8 @@ ghost use Rattle.pgs_script.specs.Order as order;
 
 use crate::declarations::{Declarations, Group, Osd};
 use crate::script::{Stage, StepScript};
-use pgs_lines::{Line, Object, Op, Payload, Step};
+use pgs_lines::{Basic, Line, Object, Step};
+use pgs_request::{Op, Payload};
 use sqlite_items::Items;
 use std::alloc::{AllocError, Global};
 
@@ -32,6 +33,7 @@ fn is_short(op: &Op) -> bool
     match op {
         Op::Full { payload } => match payload {
             Payload::Text { bytes } => bytes.len() <= 64,
+            _ => false,
         },
     }
 }
@@ -40,12 +42,13 @@ fn is_short(op: &Op) -> bool
 fn is_written(said: &[Step], object: &Object) -> bool
     ensures { result ≡ order.is_written said.now object.now }
 {
-    let Some(
-        Step::Write {
-            object: written,
-            ..
-        },
-    ) = said.first()
+    let Some(Step::Basic { basic }) = said.first() else {
+        return object.name.is_empty();
+    };
+    let Basic::Write {
+        object: written,
+        ..
+    } = basic
     else {
         return object.name.is_empty();
     };
@@ -64,17 +67,40 @@ fn damage_follows(said: &[Step], group: u32, osd: u32, object: &Object) -> bool
     said.len() < 5 && group == 0 && osd < 3 && unplaced(object) && is_written(said, object)
 }
 
+fn opens(basic: &Basic) -> bool
+    ensures { result ≡ order.opens basic.now }
+{
+    match basic {
+        Basic::Write {
+            client,
+            serial,
+            object,
+            op,
+        } => write_follows(*client, *serial, object, op),
+        _ => false,
+    }
+}
+
+fn damages(said: &[Step], basic: &Basic) -> bool
+    ensures { result ≡ order.damages said.now basic.now }
+{
+    match basic {
+        Basic::Damage {
+            group,
+            osd,
+            object,
+            ..
+        } => damage_follows(said, *group, *osd, object),
+        _ => false,
+    }
+}
+
 fn step_follows(stage: Stage, said: &[Step], step: &Step) -> bool
     ensures { result ≡ order.step_follows stage said.now step.now }
 {
     match stage {
         Stage::Opened => match step {
-            Step::Write {
-                client,
-                serial,
-                object,
-                op,
-            } => write_follows(*client, *serial, object, op),
+            Step::Basic { basic } => opens(basic),
             _ => false,
         },
         Stage::Written => match step {
@@ -82,12 +108,7 @@ fn step_follows(stage: Stage, said: &[Step], step: &Step) -> bool
             _ => false,
         },
         Stage::Settled => match step {
-            Step::Damage {
-                group,
-                osd,
-                object,
-                ..
-            } => damage_follows(said, *group, *osd, object),
+            Step::Basic { basic } => damages(said, basic),
             Step::Sweep { group, .. } => *group == 0,
             _ => false,
         },
@@ -147,13 +168,21 @@ pub fn allows(script: &StepScript, line: &Line) -> bool
     }
 }
 
+fn basic_stage(basic: &Basic) -> Stage
+    ensures { result ≡ order.basic_stage basic.now }
+{
+    match basic {
+        Basic::Write { .. } => Stage::Written,
+        _ => Stage::Settled,
+    }
+}
+
 fn stage_after(step: &Step) -> Stage
     ensures { result ≡ order.stage_after step.now }
 {
     match step {
-        Step::Write { .. } => Stage::Written,
+        Step::Basic { basic } => basic_stage(basic),
         Step::Settle { .. } => Stage::Settled,
-        Step::Damage { .. } => Stage::Settled,
         Step::Sweep { .. } => Stage::Swept,
     }
 }

@@ -7,7 +7,8 @@ use Rattle.pgs_words.specs.Fields.{number, has_length, dash}
 use Rattle.pgs_lines.specs.Objects.{space, key, name, op as op_form}
 use Rattle.pgs_lines.specs.Steps.{step_said}
 use Rattle.pgs_lines.specs.declared.object.Object.{Object}
-use Rattle.pgs_lines.specs.declared.op.Op.{Op}
+use Rattle.pgs_request.specs.declared.op.Op.{Op}
+use Rattle.pgs_lines.specs.declared.basic.Basic.TheVariants as basics
 use Rattle.pgs_lines.specs.declared.step.Step.TheVariants as steps
 use Rattle.pgs_name.specs.Bounds.{is_word, is_named}
 use Rattle.pgs_name.proofs.Named.{named}
@@ -20,7 +21,7 @@ word_fits most w e =
     let c = both (nat_le 0 (length w)) (nat_le (length w) most) b.0 in
     joined (nat_le (length w) most && is_plain w) (not (same_text w dash)) (joined (nat_le (length w) most) (is_plain w) c.1 b.1) a.1
 
-pub written_is_named : (client serial : ℕ) (object : Object) (op : Op) → (step_said (steps.Write client serial object op)).fits ≡ true
+pub written_is_named : (client serial : ℕ) (object : Object) (op : Op) → (step_said (steps.Basic (basics.Write client serial object op))).fits ≡ true
     → is_named object.space object.key object.name HEAD ≡ true
 written_is_named client serial object op e =
     let a = both (number.fits client) (number.fits serial && (space.fits object.space && (key.fits object.key && (name.fits object.name && op_form.fits op)))) e in

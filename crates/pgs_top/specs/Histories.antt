@@ -1,13 +1,15 @@
 -- What happened in a script.
 use Rattle.std.specs.Prelude.{ℕ, ◌==◌, if◌then◌else◌, List, [], ◌∷◌, Option, map}
-use Rattle.pgs_lines.specs.Objects.{bytes_of}
+use Rattle.pgs_request.specs.Payloads.{bytes_of}
 use Rattle.pgs_lines.specs.declared.object.Object.{Object}
-use Rattle.pgs_lines.specs.declared.op.Op.{Op}
-use Rattle.pgs_lines.specs.declared.op.Op.TheVariants.{Full}
+use Rattle.pgs_request.specs.declared.op.Op.{Op}
+use Rattle.pgs_request.specs.declared.op.Op.TheVariants.{Full}
 use Rattle.pgs_lines.specs.declared.snap.Snap.{Snap}
 use Rattle.pgs_lines.specs.declared.snap.Snap.TheVariants.{Head}
 use Rattle.pgs_lines.specs.declared.damage.Damage.TheVariants as line_damages
 use Rattle.pgs_lines.specs.declared.damage.Damage.{Damage as LineDamage}
+use Rattle.pgs_lines.specs.declared.basic.Basic.{Basic}
+use Rattle.pgs_lines.specs.declared.basic.Basic.TheVariants as basics
 use Rattle.pgs_lines.specs.declared.step.Step.{Step}
 use Rattle.pgs_lines.specs.declared.step.Step.TheVariants as steps
 use Rattle.pgs_copy.specs.declared.obj_copy.ObjCopy.{ObjCopy}
@@ -48,13 +50,21 @@ snap_of Head = HEAD
 abbrev pub damage_of : LineDamage → Damage
 damage_of (line_damages.Flip at xor) = Flip at xor
 
+-- what a step does to the copies of one OSD, before what later ones do
+abbrev pub damaged_by : ℕ → Basic → List (ℕ × Damage) → List (ℕ × Damage)
+damaged_by osd (basics.Write client serial object op) more = more
+damaged_by osd (basics.Collect group client serial) more = more
+damaged_by osd (basics.Pull group other) more = more
+damaged_by osd (basics.Apply group other) more = more
+damaged_by osd (basics.Tell group other) more = more
+damaged_by osd (basics.Damage group other object snap damage) more =
+    if other == osd then (snap_of snap, damage_of damage) ∷ more else more
+
 -- what the steps do to the copies of one OSD, in order, each at one snap
 abbrev pub damages_of : ℕ → List Step → List (ℕ × Damage)
 damages_of osd [] = []
-damages_of osd (steps.Write client serial object op ∷ more) = damages_of osd more
+damages_of osd (steps.Basic basic ∷ more) = damaged_by osd basic (damages_of osd more)
 damages_of osd (steps.Settle group ∷ more) = damages_of osd more
-damages_of osd (steps.Damage group other object snap damage ∷ more) =
-    if other == osd then (snap_of snap, damage_of damage) ∷ damages_of osd more else damages_of osd more
 damages_of osd (steps.Sweep group kind ∷ more) = damages_of osd more
 
 -- ---- the histories of a script
@@ -63,13 +73,20 @@ damages_of osd (steps.Sweep group kind ∷ more) = damages_of osd more
 abbrev pub member_of : Item → List Step → ℕ → Member
 member_of item said osd = record { osd = osd; item = item; damages = damages_of osd said }
 
+-- the members of a group under such steps, of which this is the first
+abbrev pub members_by : Group → List Step → Basic → List Member
+members_by group said (basics.Write client serial object op) = map (member_of (item_of group.epoch object op) said) group.members
+members_by group said (basics.Collect g client serial) = []
+members_by group said (basics.Pull g osd) = []
+members_by group said (basics.Apply g osd) = []
+members_by group said (basics.Tell g osd) = []
+members_by group said (basics.Damage g osd object snap damage) = []
+
 -- the members of a group under a script that begins with a write
 abbrev pub members_of : Group → List Step → List Member
 members_of group [] = []
-members_of group (steps.Write client serial object op ∷ more) =
-    map (member_of (item_of group.epoch object op) (steps.Write client serial object op ∷ more)) group.members
+members_of group (steps.Basic basic ∷ more) = members_by group (steps.Basic basic ∷ more) basic
 members_of group (steps.Settle g ∷ more) = []
-members_of group (steps.Damage g osd object snap damage ∷ more) = []
 members_of group (steps.Sweep g kind ∷ more) = []
 
 -- the members of the first group

@@ -3,10 +3,10 @@ ghost use Rattle.pgs_name.specs.Bounds.{is_named};
 ghost use Rattle.pgs_name.specs.declared.object_id.TheConstants.{HEAD};
 ghost use Rattle.pgs_top.specs.Histories as histories;
 
-use pgs_bytes::Bytes;
 use pgs_copy::Effect;
-use pgs_lines::{Object, Op, Payload};
+use pgs_lines::Object;
 use pgs_name::{Family, HEAD, NameError, ObjectId};
+use pgs_request::Op;
 use sqlite_items::Items;
 use std::alloc::{AllocError, Global};
 
@@ -46,15 +46,13 @@ fn effects(alloc: Global, op: &Op) -> Result<Items<(u64, Effect)>, AllocError>
     ensures { IfOk result (λ es. es ≡ histories.effects_of op.now) }
 {
     match op {
-        Op::Full { payload } => match payload {
-            Payload::Text { bytes } => {
-                let bytes: Bytes = bytes.clone()?;
-                let mut effects = Items::new(alloc);
-                effects.push((HEAD, Effect::Clear))?;
-                effects.push((HEAD, Effect::SetData { bytes }))?;
-                Ok(effects)
-            }
-        },
+        Op::Full { payload } => {
+            let bytes = payload.to_bytes(alloc)?;
+            let mut effects = Items::new(alloc);
+            effects.push((HEAD, Effect::Clear))?;
+            effects.push((HEAD, Effect::SetData { bytes }))?;
+            Ok(effects)
+        }
     }
 }
 

@@ -9,8 +9,9 @@ use crate::histories::Histories;
 use crate::item::first_item;
 use crate::member::Member;
 use pgs_copy::Damage;
-use pgs_lines::{Object, Op, Snap, Step};
+use pgs_lines::{Basic, Object, Snap, Step};
 use pgs_name::HEAD;
+use pgs_request::Op;
 use pgs_script::{Declarations, Group, StepScript};
 use sqlite_items::Items;
 use std::alloc::{AllocError, Global};
@@ -47,15 +48,17 @@ fn damages(alloc: Global, osd: u32, steps: &[Step]) -> Result<Items<(u64, Damage
 {
     let mut damages = Items::new(alloc);
     for step in steps {
-        if let Step::Damage {
-            osd: other,
-            snap,
-            damage,
-            ..
-        } = step
-        {
-            if *other == osd {
-                damages.push((snap_of(*snap), damage_of(*damage)))?;
+        if let Step::Basic { basic } = step {
+            if let Basic::Damage {
+                osd: other,
+                snap,
+                damage,
+                ..
+            } = basic
+            {
+                if *other == osd {
+                    damages.push((snap_of(*snap), damage_of(*damage)))?;
+                }
             }
         }
     }
@@ -104,7 +107,10 @@ fn group_members(alloc: Global, group: &Group, steps: &[Step]) -> Result<Items<M
     requires { AreSpelled steps.now }
     ensures { IfOk result (λ ms. ms ≡ histories.members_of group.now steps.now) }
 {
-    let Some(Step::Write { object, op, .. }) = steps.first() else {
+    let Some(Step::Basic { basic }) = steps.first() else {
+        return Ok(Items::new(alloc));
+    };
+    let Basic::Write { object, op, .. } = basic else {
         return Ok(Items::new(alloc));
     };
     written(alloc, group, object, op, steps)

@@ -5,3 +5,5 @@ pub mod Laws
 pub mod FormLaws
 pub mod KindLaws
 pub mod FieldLaws
+pub mod HexLaws
+pub mod FrontLaws

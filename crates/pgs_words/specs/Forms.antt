@@ -219,3 +219,34 @@ look_up (r ∷ rows) w = if same_text w r.0 then Some r.1 else look_up rows w
 
 abbrev pub keyword : {A : Type 0} → (A → List ℕ) → List (List ℕ × A) → Field A
 keyword spelled rows = record { fits = λ x. true; spell = spelled; read = look_up rows }
+
+-- ---- values of several kinds that are one text, told by its front
+
+-- the front of a kind, and how what follows it is read
+pub record Front (A : Type 0) : Type 0 where
+  pub front : List ℕ
+  pub read : List ℕ → Option A
+
+abbrev pub front : {A B : Type 0} → List ℕ → Field B → (B → A) → Front A
+front begin f make = record { front = begin; read = λ text. option_map make (f.read text) }
+
+abbrev pub read_or : {A : Type 0} → Option (List ℕ) → (List ℕ → Option A) → Option A → Option A
+read_or None read other = other
+read_or (Some rest) read other = read rest
+
+-- by the first row whose front stands there
+abbrev pub by_fronts : {A : Type 0} → List (Front A) → List ℕ → Option A
+by_fronts [] text = None
+by_fronts (r ∷ rows) text = read_or (after_front r.front text) r.read (by_fronts rows text)
+
+-- the text of a value, and whether it has it
+pub record Writing : Type 0 where
+  pub text : List ℕ
+  pub fits : Bool
+
+-- a kind's front and what its field spells behind it
+abbrev pub written : {B : Type 0} → List ℕ → Field B → B → Writing
+written begin f x = record { text = begin ++ f.spell x; fits = f.fits x }
+
+abbrev pub fronts : {A : Type 0} → (A → Writing) → (List ℕ → Option A) → Field A
+fronts writing read = record { fits = λ x. (writing x).fits; spell = λ x. (writing x).text; read = read }

@@ -43,15 +43,22 @@ pub fn next(parts: Option<&[u8]>, byte: u8) -> Result<(&[u8], Option<&[u8]>), Re
     }
 }
 
-/// No word is left.
+/// No part is left.
 #[tactic(auto, using(crate::proofs::Cuts::never_none))]
-pub fn ended(words: Option<&[u8]>) -> Result<(), ReadError>
-    ensures { Gives (λ x. tt) result (none_left (left 32 (option_copied words.entry))) }
+pub fn parts_ended(parts: Option<&[u8]>, byte: u8) -> Result<(), ReadError>
+    ensures { Gives (λ x. tt) result (none_left (left byte (option_copied parts.entry))) }
 {
-    match words {
+    match parts {
         Some(_) => Err(ReadError::Outside),
         None => Ok(()),
     }
+}
+
+/// No word is left.
+pub fn ended(words: Option<&[u8]>) -> Result<(), ReadError>
+    ensures { Gives (λ x. tt) result (none_left (left 32 (option_copied words.entry))) }
+{
+    parts_ended(words, b' ')
 }
 
 /// Whether a word is this one.

@@ -3,38 +3,13 @@ ghost use Rattle.std.specs.Option.{option_copied};
 ghost use Rattle.pgs_words.specs.Forms.{Gives, left, taken};
 ghost use Rattle.pgs_lines.specs.Objects as objects;
 
+use super::payloads::last_payload;
 use crate::damage::Damage;
 use crate::kind::Kind;
-use crate::op::Op;
-use crate::payload::Payload;
 use crate::snap::Snap;
-use pgs_bytes::{Bytes, is_plain};
-use pgs_words::{ReadError, after, ended, is_word, next, number, positive_byte};
+use pgs_request::Op;
+use pgs_words::{ReadError, ended, is_word, next, number, positive_byte};
 use std::alloc::Global;
-
-/// The payload that a word spells.
-fn payload_in(alloc: Global, word: &[u8]) -> Result<Payload, ReadError>
-    ensures { Gives (λ x. x) result ((objects.payload).read word.now) }
-{
-    let Some(bytes) = after(word, b"text:") else {
-        return Err(ReadError::Outside);
-    };
-    if is_plain(bytes) {
-        let bytes = Bytes::from_slice(alloc, bytes)?;
-        return Ok(Payload::Text { bytes });
-    }
-    Err(ReadError::Outside)
-}
-
-/// The last word, as a payload.
-fn last_payload(alloc: Global, words: Option<&[u8]>) -> Result<Payload, ReadError>
-    ensures { Gives (λ x. x) result ((objects.last_payload).read (left 32 (option_copied words.entry))) }
-{
-    let (word, words) = next(words, b' ')?;
-    let payload = payload_in(alloc, word)?;
-    ended(words)?;
-    Ok(payload)
-}
 
 /// OP: the last words of a write.
 #[tactic(auto, unfolding(crate::specs::Objects::op_rows, crate::specs::Objects::op_read))]

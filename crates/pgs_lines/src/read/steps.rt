@@ -3,30 +3,11 @@ ghost use Rattle.std.specs.Option.{option_copied};
 ghost use Rattle.pgs_words.specs.Forms.{Gives, left};
 ghost use Rattle.pgs_lines.specs.Steps as steps;
 
-use super::objects::{damage, kind, op, snap};
-use crate::object::Object;
+use super::basics::basic_in;
+use super::objects::kind;
 use crate::step::Step;
-use pgs_words::{ReadError, dashed, ended, is_word, name, number, word};
+use pgs_words::{ReadError, ended, is_word, number};
 use std::alloc::Global;
-
-fn write(alloc: Global, words: Option<&[u8]>) -> Result<Step, ReadError>
-    ensures { Gives (λ x. x) result (steps.write_read (left 32 (option_copied words.entry))) }
-{
-    let (client, words) = number(words)?;
-    let (serial, words) = number(words)?;
-    let (space, words) = dashed(alloc, words, 64)?;
-    let (key, words) = dashed(alloc, words, 255)?;
-    let (name, words) = name(alloc, words, 255)?;
-    let words = word(words, b"-")?;
-    let op = op(alloc, words)?;
-    let object = Object { space, key, name };
-    Ok(Step::Write {
-        client,
-        serial,
-        object,
-        op,
-    })
-}
 
 fn settle(words: Option<&[u8]>) -> Result<Step, ReadError>
     ensures { Gives (λ x. x) result (steps.settle_read (left 32 (option_copied words.entry))) }
@@ -34,26 +15,6 @@ fn settle(words: Option<&[u8]>) -> Result<Step, ReadError>
     let (group, words) = number(words)?;
     ended(words)?;
     Ok(Step::Settle { group })
-}
-
-fn damage_step(alloc: Global, words: Option<&[u8]>) -> Result<Step, ReadError>
-    ensures { Gives (λ x. x) result (steps.damage_read (left 32 (option_copied words.entry))) }
-{
-    let (group, words) = number(words)?;
-    let (osd, words) = number(words)?;
-    let (space, words) = dashed(alloc, words, 64)?;
-    let (key, words) = dashed(alloc, words, 255)?;
-    let (name, words) = name(alloc, words, 255)?;
-    let (snap, words) = snap(words)?;
-    let damage = damage(words)?;
-    let object = Object { space, key, name };
-    Ok(Step::Damage {
-        group,
-        osd,
-        object,
-        snap,
-        damage,
-    })
 }
 
 fn sweep(words: Option<&[u8]>) -> Result<Step, ReadError>
@@ -70,17 +31,12 @@ fn sweep(words: Option<&[u8]>) -> Result<Step, ReadError>
 pub fn step_in(alloc: Global, word: &[u8], words: Option<&[u8]>) -> Result<Step, ReadError>
     ensures { Gives (λ x. x) result (steps.step_read word.now (left 32 (option_copied words.entry))) }
 {
-    if is_word(word, b"write") {
-        return write(alloc, words);
-    }
     if is_word(word, b"settle") {
         return settle(words);
-    }
-    if is_word(word, b"damage") {
-        return damage_step(alloc, words);
     }
     if is_word(word, b"sweep") {
         return sweep(words);
     }
-    Err(ReadError::Outside)
+    let basic = basic_in(alloc, word, words)?;
+    Ok(Step::Basic { basic })
 }

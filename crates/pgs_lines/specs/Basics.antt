@@ -1,0 +1,63 @@
+-- How the lines are spelled that do one thing.
+use Rattle.std.specs.Prelude.{ℕ, List, [], ◌∷◌, Option, option_map, codes}
+use Rattle.pgs_words.specs.Forms.{Form, Row, Spelling, field, last, word_then, said, row, by_rows, no_row}
+use Rattle.pgs_words.specs.Fields.{number, dash}
+use Rattle.pgs_request.specs.declared.op.Op.{Op}
+use Rattle.pgs_lines.specs.Objects.{op, damage, snap, named}
+use Rattle.pgs_lines.specs.declared.damage.Damage.{Damage}
+use Rattle.pgs_lines.specs.declared.snap.Snap.{Snap}
+use Rattle.pgs_lines.specs.declared.basic.Basic.{Basic}
+use Rattle.pgs_lines.specs.declared.basic.Basic.TheVariants as basics
+
+-- CLIENT SERIAL SPACE KEY NAME - OP
+abbrev pub write_form : Form (ℕ × (ℕ × (List ℕ × (List ℕ × (List ℕ × Op)))))
+write_form = field number (field number (named (word_then dash op)))
+
+abbrev pub write_of : ℕ × (ℕ × (List ℕ × (List ℕ × (List ℕ × Op)))) → Basic
+write_of x = basics.Write x.0 x.1.0 (record { space = x.1.1.0; key = x.1.1.1.0; name = x.1.1.1.1.0 }) x.1.1.1.1.1
+
+-- G CLIENT SERIAL
+abbrev pub collect_form : Form (ℕ × (ℕ × ℕ))
+collect_form = field number (field number (last number))
+
+-- G OSD
+abbrev pub member_form : Form (ℕ × ℕ)
+member_form = field number (last number)
+
+-- G OSD SPACE KEY NAME SNAP DAMAGE
+abbrev pub damage_form : Form (ℕ × (ℕ × (List ℕ × (List ℕ × (List ℕ × (Snap × Damage))))))
+damage_form = field number (field number (named (field snap damage)))
+
+abbrev pub damage_of : ℕ × (ℕ × (List ℕ × (List ℕ × (List ℕ × (Snap × Damage))))) → Basic
+damage_of x = basics.Damage x.0 x.1.0 (record { space = x.1.1.0; key = x.1.1.1.0; name = x.1.1.1.1.0 }) x.1.1.1.1.1.0 x.1.1.1.1.1.1
+
+abbrev pub basic_said : Basic → Spelling
+basic_said (basics.Write client serial o p) = said (codes "write") write_form (client, (serial, (o.space, (o.key, (o.name, p)))))
+basic_said (basics.Collect group client serial) = said (codes "collect") collect_form (group, (client, serial))
+basic_said (basics.Pull group osd) = said (codes "pull") member_form (group, osd)
+basic_said (basics.Apply group osd) = said (codes "apply") member_form (group, osd)
+basic_said (basics.Tell group osd) = said (codes "tell") member_form (group, osd)
+basic_said (basics.Damage group osd o s d) = said (codes "damage") damage_form (group, (osd, (o.space, (o.key, (o.name, (s, d))))))
+
+unfoldable pub basic_rows : List (Row Basic)
+basic_rows =
+    row (codes "write") write_form write_of
+    ∷ row (codes "collect") collect_form (λ x. basics.Collect x.0 x.1.0 x.1.1)
+    ∷ row (codes "pull") member_form (λ x. basics.Pull x.0 x.1)
+    ∷ row (codes "apply") member_form (λ x. basics.Apply x.0 x.1)
+    ∷ row (codes "tell") member_form (λ x. basics.Tell x.0 x.1)
+    ∷ row (codes "damage") damage_form damage_of
+    ∷ []
+
+unfoldable pub basic_read : List ℕ → List (List ℕ) → Option Basic
+basic_read word words = by_rows basic_rows no_row word words
+
+-- what follows the word of a kind, read
+abbrev pub write_read : List (List ℕ) → Option Basic
+write_read words = option_map write_of (write_form.read words)
+
+abbrev pub collect_read : List (List ℕ) → Option Basic
+collect_read words = option_map (λ x. basics.Collect x.0 x.1.0 x.1.1) (collect_form.read words)
+
+abbrev pub damage_read : List (List ℕ) → Option Basic
+damage_read words = option_map damage_of (damage_form.read words)

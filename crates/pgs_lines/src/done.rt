@@ -1,0 +1,87 @@
+use crate::apply_answer::ApplyAnswer;
+use crate::damage::Damage;
+use crate::object::Object;
+use crate::snap::Snap;
+use pgs_request::{CollectAnswer, Op, WriteAnswer};
+
+/// A thing that was done, with its answer. Each is one printed line.
+#[derive(Drop)]
+pub enum Done {
+    /// A client wrote.
+    Write {
+        /// The client.
+        client: u32,
+        /// The client's number for this write.
+        serial: u32,
+        /// The object.
+        object: Object,
+        /// What was done to its head.
+        op: Op,
+        /// The answer.
+        answer: WriteAnswer,
+    },
+    /// A client asked what became of its write.
+    Collect {
+        /// The group.
+        group: u32,
+        /// The client.
+        client: u32,
+        /// The client's number for the write.
+        serial: u32,
+        /// The answer.
+        answer: CollectAnswer,
+    },
+    /// An OSD was sent the items of the log between two numbers.
+    Pull {
+        /// The group.
+        group: u32,
+        /// The OSD.
+        osd: u32,
+        /// The number of the last item that it was sent before.
+        from: u64,
+        /// The number of the last item that it was sent now.
+        to: u64,
+    },
+    /// An OSD stored the next item, or didn't.
+    Apply {
+        /// The group.
+        group: u32,
+        /// The OSD.
+        osd: u32,
+        /// The answer.
+        answer: ApplyAnswer,
+    },
+    /// An OSD told the group how far it stored.
+    Tell {
+        /// The group.
+        group: u32,
+        /// The OSD.
+        osd: u32,
+        /// The number of the last item that it stored.
+        applied: u64,
+    },
+    /// A stored copy changed.
+    Damage {
+        /// The group.
+        group: u32,
+        /// The OSD whose copy it is.
+        osd: u32,
+        /// The object.
+        object: Object,
+        /// The head or a clone.
+        snap: Snap,
+        /// The change.
+        damage: Damage,
+    },
+    /// The last chunk of a scrub was closed.
+    Close {
+        /// The group.
+        group: u32,
+        /// The number of the chunk.
+        chunk: u64,
+        /// How many objects have findings.
+        findings: u64,
+        /// How many objects have findings about their clones.
+        snaps: u64,
+    },
+}

@@ -1,0 +1,7 @@
+//! How what was done is printed.
+mod answers;
+mod lines;
+mod steps;
+mod words;
+
+pub use lines::print;

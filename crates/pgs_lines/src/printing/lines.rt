@@ -1,0 +1,75 @@
+ghost use Rattle.std.specs.Prelude.{◌≡◌, ◌++◌, OnOk};
+ghost use Rattle.pgs_lines.specs.Done as done_lines;
+ghost use Rattle.pgs_lines.specs.Done.{behind, begins};
+
+use super::answers::{
+    push_applied, push_closed, push_collected, push_count, push_pulled, push_written,
+};
+use super::steps::{push_close, push_collect, push_damage_step, push_member, push_write};
+use super::words::push_word;
+use crate::done::Done;
+use std::alloc::{AllocError, Global};
+
+// Appends the words of what was done.
+fn push_step(alloc: Global, done: &Done, out: &mut Vec<u8>) -> Result<(), AllocError>
+    ensures { OnOk result (out.new.items ≡ out.old.items ++ begins (done_lines.step_words done.now)) }
+{
+    match done {
+        Done::Write {
+            client,
+            serial,
+            object,
+            op,
+            ..
+        } => push_write(alloc, *client, *serial, object, op, out),
+        Done::Collect {
+            group,
+            client,
+            serial,
+            ..
+        } => push_collect(alloc, *group, *client, *serial, out),
+        Done::Pull { group, osd, .. } => push_member(alloc, b"pull", *group, *osd, out),
+        Done::Apply { group, osd, .. } => push_member(alloc, b"apply", *group, *osd, out),
+        Done::Tell { group, osd, .. } => push_member(alloc, b"tell", *group, *osd, out),
+        Done::Damage {
+            group,
+            osd,
+            object,
+            snap,
+            damage,
+        } => push_damage_step(alloc, *group, *osd, object, *snap, *damage, out),
+        Done::Close { group, .. } => push_close(alloc, *group, out),
+    }
+}
+
+// Appends the words of the answer.
+fn push_answer(alloc: Global, done: &Done, out: &mut Vec<u8>) -> Result<(), AllocError>
+    ensures { OnOk result (out.new.items ≡ out.old.items ++ behind (done_lines.answer_words done.now)) }
+{
+    match done {
+        Done::Write { answer, .. } => push_written(alloc, *answer, out),
+        Done::Collect { answer, .. } => push_collected(alloc, *answer, out),
+        Done::Pull { from, to, .. } => push_pulled(alloc, *from, *to, out),
+        Done::Apply { answer, .. } => push_applied(alloc, *answer, out),
+        Done::Tell { applied, .. } => push_count(alloc, b"told", *applied, out),
+        Done::Damage { .. } => push_word(b"damaged", out),
+        Done::Close {
+            chunk,
+            findings,
+            snaps,
+            ..
+        } => push_closed(alloc, *chunk, *findings, *snaps, out),
+    }
+}
+
+/// Appends the line of what was done. The words of an object are printed as they stand in it.
+#[tactic(auto, using(crate::proofs::Behind::printed))]
+pub fn print(alloc: Global, done: &Done, out: &mut Vec<u8>) -> Result<(), AllocError>
+    ensures { OnOk result (out.new.items ≡ out.old.items ++ done_lines.done_line done.now) }
+{
+    push_step(alloc, done, out)?;
+    push_word(b":", out)?;
+    push_answer(alloc, done, out)?;
+    out.push(b'\n')?;
+    Ok(())
+}

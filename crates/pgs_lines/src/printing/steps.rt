@@ -1,0 +1,135 @@
+ghost use Rattle.std.specs.Prelude.{◌≡◌, ◌++◌, ◌∷◌, [], OnOk, codes};
+ghost use Rattle.std.specs.Fmt.{decimal};
+ghost use Rattle.pgs_lines.specs.Objects as objects;
+ghost use Rattle.pgs_lines.specs.Basics as basics;
+ghost use Rattle.pgs_lines.specs.Done.{behind};
+
+use super::words::{push_dashed, push_number, push_payload, push_word};
+use crate::damage::Damage;
+use crate::object::Object;
+use crate::snap::Snap;
+use pgs_request::Op;
+use std::alloc::{AllocError, Global};
+
+#[tactic(auto, using(crate::proofs::Behind::joins))]
+fn push_object(object: &Object, out: &mut Vec<u8>) -> Result<(), AllocError>
+    ensures { OnOk result (out.new.items ≡ out.old.items ++ behind ((objects.space).spell object.now.space ∷ (objects.key).spell object.now.key ∷ object.now.name ∷ [])) }
+{
+    push_dashed(&object.space, out)?;
+    push_dashed(&object.key, out)?;
+    push_word(object.name.as_slice(), out)
+}
+
+#[tactic(auto, using(crate::proofs::Behind::joins))]
+fn push_op(alloc: Global, op: &Op, out: &mut Vec<u8>) -> Result<(), AllocError>
+    ensures { OnOk result (out.new.items ≡ out.old.items ++ behind ((objects.op).spell op.now)) }
+{
+    match op {
+        Op::Full { payload } => {
+            push_word(b"full", out)?;
+            push_payload(alloc, payload, out)
+        }
+    }
+}
+
+#[tactic(auto, using(crate::proofs::Behind::joins))]
+fn push_damage(alloc: Global, damage: Damage, out: &mut Vec<u8>) -> Result<(), AllocError>
+    ensures { OnOk result (out.new.items ≡ out.old.items ++ behind ((objects.damage).spell damage)) }
+{
+    match damage {
+        Damage::Flip { at, xor } => {
+            push_word(b"flip", out)?;
+            push_number(alloc, u64::from(at), out)?;
+            push_number(alloc, u64::from(xor), out)
+        }
+    }
+}
+
+fn push_snap(snap: Snap, out: &mut Vec<u8>) -> Result<(), AllocError>
+    ensures { OnOk result (out.new.items ≡ out.old.items ++ behind (objects.snap_word snap ∷ [])) }
+{
+    match snap {
+        Snap::Head => push_word(b"head", out),
+    }
+}
+
+/// Appends the words of a write.
+#[tactic(auto, using(crate::proofs::Behind::joins))]
+pub fn push_write(
+    alloc: Global,
+    client: u32,
+    serial: u32,
+    object: &Object,
+    op: &Op,
+    out: &mut Vec<u8>,
+) -> Result<(), AllocError>
+    ensures { OnOk result (out.new.items ≡ out.old.items ++ (codes "write" ++ behind ((basics.write_form).spell (client, (serial, (object.now.space, (object.now.key, (object.now.name, op.now)))))))) }
+{
+    out.extend_from_slice(b"write")?;
+    push_number(alloc, u64::from(client), out)?;
+    push_number(alloc, u64::from(serial), out)?;
+    push_object(object, out)?;
+    push_word(b"-", out)?;
+    push_op(alloc, op, out)
+}
+
+/// Appends the words of a `collect`.
+#[tactic(auto, using(crate::proofs::Behind::joins))]
+pub fn push_collect(
+    alloc: Global,
+    group: u32,
+    client: u32,
+    serial: u32,
+    out: &mut Vec<u8>,
+) -> Result<(), AllocError>
+    ensures { OnOk result (out.new.items ≡ out.old.items ++ (codes "collect" ++ behind ((basics.collect_form).spell (group, (client, serial))))) }
+{
+    out.extend_from_slice(b"collect")?;
+    push_number(alloc, u64::from(group), out)?;
+    push_number(alloc, u64::from(client), out)?;
+    push_number(alloc, u64::from(serial), out)
+}
+
+/// Appends a word, a group and an OSD.
+#[tactic(auto, using(crate::proofs::Behind::joins))]
+pub fn push_member(
+    alloc: Global,
+    word: &[u8],
+    group: u32,
+    osd: u32,
+    out: &mut Vec<u8>,
+) -> Result<(), AllocError>
+    ensures { OnOk result (out.new.items ≡ out.old.items ++ (word.now ++ behind ((basics.member_form).spell (group, osd)))) }
+{
+    out.extend_from_slice(word)?;
+    push_number(alloc, u64::from(group), out)?;
+    push_number(alloc, u64::from(osd), out)
+}
+
+/// Appends the words of a `damage`.
+#[tactic(auto, using(crate::proofs::Behind::joins))]
+pub fn push_damage_step(
+    alloc: Global,
+    group: u32,
+    osd: u32,
+    object: &Object,
+    snap: Snap,
+    damage: Damage,
+    out: &mut Vec<u8>,
+) -> Result<(), AllocError>
+    ensures { OnOk result (out.new.items ≡ out.old.items ++ (codes "damage" ++ behind ((basics.damage_form).spell (group, (osd, (object.now.space, (object.now.key, (object.now.name, (snap, damage))))))))) }
+{
+    push_member(alloc, b"damage", group, osd, out)?;
+    push_object(object, out)?;
+    push_snap(snap, out)?;
+    push_damage(alloc, damage, out)
+}
+
+/// Appends the words of a `close`.
+#[tactic(auto, using(crate::proofs::Behind::joins))]
+pub fn push_close(alloc: Global, group: u32, out: &mut Vec<u8>) -> Result<(), AllocError>
+    ensures { OnOk result (out.new.items ≡ out.old.items ++ (codes "close" ++ behind (decimal group ∷ []))) }
+{
+    out.extend_from_slice(b"close")?;
+    push_number(alloc, u64::from(group), out)
+}

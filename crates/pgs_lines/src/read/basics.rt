@@ -1,0 +1,102 @@
+ghost use Rattle.std.specs.Prelude.{◌≡◌};
+ghost use Rattle.std.specs.Option.{option_copied};
+ghost use Rattle.pgs_words.specs.Forms.{Gives, left};
+ghost use Rattle.pgs_lines.specs.Basics as basics;
+
+use super::objects::{damage, op, snap};
+use crate::basic::Basic;
+use crate::object::Object;
+use pgs_words::{ReadError, dashed, ended, is_word, name, number, word};
+use std::alloc::Global;
+
+fn write(alloc: Global, words: Option<&[u8]>) -> Result<Basic, ReadError>
+    ensures { Gives (λ x. x) result (basics.write_read (left 32 (option_copied words.entry))) }
+{
+    let (client, words) = number(words)?;
+    let (serial, words) = number(words)?;
+    let (space, words) = dashed(alloc, words, 64)?;
+    let (key, words) = dashed(alloc, words, 255)?;
+    let (name, words) = name(alloc, words, 255)?;
+    let words = word(words, b"-")?;
+    let op = op(alloc, words)?;
+    let object = Object { space, key, name };
+    Ok(Basic::Write {
+        client,
+        serial,
+        object,
+        op,
+    })
+}
+
+fn collect(words: Option<&[u8]>) -> Result<Basic, ReadError>
+    ensures { Gives (λ x. x) result (basics.collect_read (left 32 (option_copied words.entry))) }
+{
+    let (group, words) = number(words)?;
+    let (client, words) = number(words)?;
+    let (serial, words) = number(words)?;
+    ended(words)?;
+    Ok(Basic::Collect {
+        group,
+        client,
+        serial,
+    })
+}
+
+// G OSD, the last words.
+fn member(words: Option<&[u8]>) -> Result<(u32, u32), ReadError>
+    ensures { Gives (λ x. x) result ((basics.member_form).read (left 32 (option_copied words.entry))) }
+{
+    let (group, words) = number(words)?;
+    let (osd, words) = number(words)?;
+    ended(words)?;
+    Ok((group, osd))
+}
+
+fn damage_step(alloc: Global, words: Option<&[u8]>) -> Result<Basic, ReadError>
+    ensures { Gives (λ x. x) result (basics.damage_read (left 32 (option_copied words.entry))) }
+{
+    let (group, words) = number(words)?;
+    let (osd, words) = number(words)?;
+    let (space, words) = dashed(alloc, words, 64)?;
+    let (key, words) = dashed(alloc, words, 255)?;
+    let (name, words) = name(alloc, words, 255)?;
+    let (snap, words) = snap(words)?;
+    let damage = damage(words)?;
+    let object = Object { space, key, name };
+    Ok(Basic::Damage {
+        group,
+        osd,
+        object,
+        snap,
+        damage,
+    })
+}
+
+/// The step that a first word and the words behind it spell, where it does one thing.
+#[tactic(auto, unfolding(crate::specs::Basics::basic_rows, crate::specs::Basics::basic_read))]
+pub fn basic_in(alloc: Global, word: &[u8], words: Option<&[u8]>) -> Result<Basic, ReadError>
+    ensures { Gives (λ x. x) result (basics.basic_read word.now (left 32 (option_copied words.entry))) }
+{
+    if is_word(word, b"write") {
+        return write(alloc, words);
+    }
+    if is_word(word, b"collect") {
+        return collect(words);
+    }
+    if is_word(word, b"pull") {
+        let (group, osd) = member(words)?;
+        return Ok(Basic::Pull { group, osd });
+    }
+    if is_word(word, b"apply") {
+        let (group, osd) = member(words)?;
+        return Ok(Basic::Apply { group, osd });
+    }
+    if is_word(word, b"tell") {
+        let (group, osd) = member(words)?;
+        return Ok(Basic::Tell { group, osd });
+    }
+    if is_word(word, b"damage") {
+        return damage_step(alloc, words);
+    }
+    Err(ReadError::Outside)
+}
