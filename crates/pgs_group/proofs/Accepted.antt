@@ -1,22 +1,19 @@
 -- The fields of a group after an accepted write.
-use Rattle.std.proofs.Common.{◌≡◌, ℕ, ◌+◌, Bool, true, false, cond, List, [], ◌∷◌, ◌++◌, reverse, length, Option, Some, None, refl, sym, ap, ◌∙◌, subst}
+use Rattle.std.proofs.Common.{◌≡◌, ℕ, ◌+◌, cond, List, [], ◌∷◌, ◌++◌, reverse, sym, ap, ◌∙◌, subst}
 use Rattle.std.proofs.lemmas.List.{reverse-append}
 use Rattle.pgs_name.specs.Families.{same_family}
 use Rattle.pgs_name.specs.declared.family.Family.{Family}
 use Rattle.pgs_name.specs.declared.object_id.TheConstants.{HEAD}
 use Rattle.pgs_copy.specs.Copies.{after_effects}
-use Rattle.pgs_copy.specs.declared.obj_copy.ObjCopy.{ObjCopy}
 use Rattle.pgs_copy.specs.declared.effect.Effect.{Effect}
 use Rattle.pgs_store.specs.Stores.{Stored, AreSame, affected, noted}
 use Rattle.pgs_request.specs.declared.version.Version.{Version}
 use Rattle.pgs_request.specs.declared.answers.WriteAnswer.TheVariants.{Accepted}
 use Rattle.pgs_op.specs.Clean.{clean as clean_of, held_by, held_with, touched_by}
 use Rattle.pgs_op.specs.Effects.{payload_size, effects_of, held_after}
-use Rattle.pgs_op.specs.declared.clean_store.CleanStore.{CleanStore}
 use Rattle.pgs_op.specs.declared.write.Write.{Write}
-use Rattle.pgs_op_log.specs.Logs.{Log}
 use Rattle.pgs_medium.specs.declared.item.Item.{Item}
-use Rattle.pgs_history.specs.Log.{clean, families, held, log, ids, log_bytes, item_of}
+use Rattle.pgs_history.specs.Log.{clean, log, item_of}
 use Rattle.pgs_history.specs.declared.event.Event.{Event}
 use Rattle.pgs_history.specs.declared.event.Event.TheVariants.{Submit}
 use Rattle.std.specs.HashSet.{contains}
@@ -59,7 +56,7 @@ tied_accepted g past write version effects new tied e li lids lb cl hl tl p t c 
       log_ids = lids ∙ ap (λ xs. (write.id, version) ∷ xs) tied.log_ids;
       log_counts = lb ∙ ap (λ n. n + payload_size write.op) tied.log_counts;
       cleans = λ f q. cl f q ∙ affected_same (clean_of g.clean) (clean (log past)) write.family effects tied.cleans f q
-        ∙ (λ i. affected write.family (made i).effects (clean (log past)) f q);
+          ∙ (λ i. affected write.family (made i).effects (clean (log past)) f q);
       holds = hl ∙ (λ i. held_after (tied.holds i) (head i) write.op) ∙ sym (held_more (log past) version write);
       touches = tl ∙ ap (noted write.family) tied.touches;
       pulls = λ osd. subst (λ x. count_of x osd ≡ pulled past osd) (sym p) (tied.pulls osd);

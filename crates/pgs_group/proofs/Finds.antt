@@ -1,6 +1,5 @@
 -- Finding by tests that agree.
-use Rattle.std.proofs.Common.{◌≡◌, ℕ, Bool, nat_lt, List, find}
-use Rattle.pgs_request.specs.declared.req_id.ReqId.{ReqId}
+use Rattle.std.proofs.Common.{◌≡◌, ℕ, nat_lt, List, find}
 use Rattle.pgs_history.specs.Members.{told}
 use Rattle.pgs_history.specs.declared.event.Event.{Event}
 use Rattle.pgs_group.specs.Counts.{count_of}
