@@ -1,0 +1,6 @@
+-- What a shard's history says, and which events may follow one another. A history is a list of events, the newest first.
+pub mod Answers
+pub mod Feeds
+pub mod Legal
+pub mod State
+pub mod Stores
