@@ -7,6 +7,7 @@ ghost use Rattle.pgs_shard.specs.Feeds.{AreNext, AreNumbered, fed};
 ghost use Rattle.pgs_shard.specs.Stores.{applied, stored_by};
 ghost use Rattle.pgs_shard.specs.Answers.{IsApplied, IsDeviceFault, past_after_apply, past_after_damage};
 ghost use Rattle.pgs_shard.specs.Legal.{IsLegal};
+ghost use Rattle.pgs_shard.specs.Laws.{IsLawful};
 ghost use Rattle.pgs_shard.specs.State.{with_event};
 ghost use Rattle.pgs_shard.specs.declared.event.Event.TheVariants.{Fed};
 
@@ -96,9 +97,11 @@ impl<M: Medium> Shard<M> {
     }
 
     /// The history, the oldest event first. The items that it feeds are numbered from 1, without a gap.
+    #[tactic(auto, using(crate::proofs::Laws::lawful))]
     pub fn events(&self) -> &[Event]
         ensures value { result.now ≡ reverse self.now.past }
         ensures numbered { AreNumbered (fed self.now.past) }
+        ensures lawful { IsLegal self.now.past → IsLawful self.now.past }
     {
         self.events.as_slice()
     }
