@@ -34,10 +34,18 @@ written item device = record device { stored = affected item.family item.effects
 abbrev pub not_written : ℕ → Device → Device
 not_written faults device = record device { faults = faults; writes = after_failure device.writes }
 
--- What a write leaves, by its answer. Where the calls that are to fail are told, it fails exactly where they name it. Without memory nothing changes.
+-- an item was written, where no list names the call
+abbrev pub IsDone : Item → Device → Device → Type 0
+IsDone item old new = (new ≡ written item old) × IsTold old false
+
+-- a write failed: where the calls that are to fail are told, they name it
+abbrev pub IsFailed : Device → Device → Type 0
+IsFailed old new = (new ≡ not_written new.faults old) × Rose old.faults new.faults × IsTold old true
+
+-- what a write leaves, by its answer; without memory nothing changes
 abbrev pub IsWritten : {A : Type 0} → Item → Device → Result A MediumError → Device → Type 0
-IsWritten item old (Ok _) new = (new ≡ written item old) × IsTold old false
-IsWritten item old (Err Failed) new = (new ≡ not_written new.faults old) × Rose old.faults new.faults × IsTold old true
+IsWritten item old (Ok _) new = IsDone item old new
+IsWritten item old (Err Failed) new = IsFailed old new
 IsWritten item old (Err Memory) new = new ≡ old
 
 -- a device after damage to a copy

@@ -1,0 +1,4 @@
+-- Laws of histories.
+pub mod Feeds
+pub mod Laws
+pub mod Ties

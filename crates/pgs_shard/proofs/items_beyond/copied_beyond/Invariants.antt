@@ -1,0 +1,6 @@
+use Rattle.std.proofs.Common.{◌≡◌, ◌++◌, drop}
+use Rattle.pgs_shard.specs.Feeds.{beyond}
+use Rattle.pgs_shard.proofs.items_beyond.copied_beyond.Given as goal
+
+abbrev pub invariant-loop-item : goal.invariant-loop-item
+invariant-loop-item l = l.copies.items ++ beyond l.last (drop l.item-index l.items) ≡ beyond l.last l.items

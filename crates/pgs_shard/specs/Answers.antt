@@ -1,0 +1,49 @@
+-- What a shard answers, and what it keeps.
+use Rattle.std.specs.Prelude.{ℕ, ◌≡◌, ◌+◌, ◌<◌, List, ◌∷◌, length, Option, Some, None, Result, Ok, Err}
+use Rattle.pgs_name.specs.declared.family.Family.{Family}
+use Rattle.pgs_copy.specs.declared.damage.Damage.{Damage}
+use Rattle.pgs_medium.specs.Device.{Device, IsWritten, IsDone, IsFailed}
+use Rattle.pgs_medium.specs.declared.item.Item.{Item}
+use Rattle.pgs_medium.specs.declared.medium_error.MediumError.{MediumError}
+use Rattle.pgs_shard.specs.Feeds.{fed, item_of}
+use Rattle.pgs_shard.specs.Stores.{applied as applied_in}
+use Rattle.pgs_shard.specs.declared.event.Event.{Event}
+use Rattle.pgs_shard.specs.declared.event.Event.TheVariants as event
+use Rattle.pgs_shard.specs.declared.applied.Applied.{Applied}
+use Rattle.pgs_shard.specs.declared.applied.Applied.TheVariants as applied
+use Rattle.pgs_shard.specs.declared.apply_error.ApplyError.{ApplyError}
+use Rattle.pgs_shard.specs.declared.apply_error.ApplyError.TheVariants.{DeviceFault, Memory}
+
+-- an item was asked for and is there, and this is what writing it leaves
+abbrev pub IsWrittenAt : {A : Type 0} → Option Item → Device → Result A MediumError → Device → Type 0
+IsWrittenAt None old answer new = ⊥
+IsWrittenAt (Some item) old answer new = IsWritten item old answer new
+
+-- an item was asked for and is there, and it was written
+abbrev pub IsDoneAt : Option Item → Device → Device → Type 0
+IsDoneAt None old new = ⊥
+IsDoneAt (Some item) old new = IsDone item old new
+
+-- The answer where the next item is to be applied, after a history, with the device before and after: all that was fed is applied, and the device wasn't asked; or the next item is there and was written; or it is there, and the device failed and counts so many faults; or memory ran out, and the device is as before.
+abbrev pub IsApplied : List Event → Device → Result Applied ApplyError → Device → Type 0
+IsApplied past old (Ok (applied.NotYet count)) new = (count ≡ applied_in past) × (count ≡ length (fed past)) × (new ≡ old)
+IsApplied past old (Ok (applied.Applied number)) new = (number ≡ applied_in past + 1) × IsDoneAt (item_of number (fed past)) old new
+IsApplied past old (Err (DeviceFault count)) new = (applied_in past < length (fed past)) × (count ≡ new.faults) × IsFailed old new
+IsApplied past old (Err Memory) new = new ≡ old
+
+-- the history after an answer: an item that is applied is kept, and so is a fault of the device
+abbrev pub past_after_apply : Result Applied ApplyError → List Event → List Event
+past_after_apply (Ok (applied.NotYet count)) past = past
+past_after_apply (Ok (applied.Applied number)) past = event.Applied number ∷ past
+past_after_apply (Err (DeviceFault count)) past = event.DeviceFault count ∷ past
+past_after_apply (Err Memory) past = past
+
+-- the answer is a fault of the device
+abbrev pub IsDeviceFault : Result Applied ApplyError → Type 0
+IsDeviceFault (Err (DeviceFault count)) = Unit {0}
+IsDeviceFault _ = ⊥
+
+-- the history after damage, which is kept where memory was there
+abbrev pub past_after_damage : {A E : Type 0} → Family → ℕ → Damage → Result A E → List Event → List Event
+past_after_damage family snap damage (Ok _) past = event.Damaged family snap damage ∷ past
+past_after_damage family snap damage (Err _) past = past

@@ -1,0 +1,19 @@
+-- Which events may follow one another.
+use Rattle.std.specs.Prelude.{◌≡◌, ◌+◌, ◌≤◌, ◌<◌, List, [], ◌∷◌, length}
+use Rattle.pgs_cause.specs.Count.{Rose}
+use Rattle.pgs_shard.specs.Feeds.{AreNext, fed}
+use Rattle.pgs_shard.specs.Stores.{applied, last_count}
+use Rattle.pgs_shard.specs.declared.event.Event.{Event}
+use Rattle.pgs_shard.specs.declared.event.Event.TheVariants.{Fed, Applied, DeviceFault, Damaged}
+
+-- An event may come after these: a feed begins at most one after the last item; the next item is applied, and was fed; the device fails only while an item waits, and its count rose; damage always may.
+abbrev pub IsDue : Event → List Event → Type 0
+IsDue (Fed from items) past = AreNext from items × (from ≤ length (fed past))
+IsDue (Applied number) past = (number ≡ applied past + 1) × (number ≤ length (fed past))
+IsDue (DeviceFault count) past = (applied past < length (fed past)) × Rose (last_count past) count
+IsDue (Damaged family snap damage) past = Unit {0}
+
+-- each event may come after those before it
+abbrev pub IsLegal : List Event → Type 0
+IsLegal [] = Unit {0}
+IsLegal (event ∷ past) = IsDue event past × IsLegal past

@@ -1,0 +1,8 @@
+/// What became of the next item.
+#[derive(Clone, Copy, Debug)]
+pub enum Applied {
+    /// All items that were fed are applied.
+    NotYet { applied: u64 },
+    /// The item of this number was applied.
+    Applied { number: u64 },
+}

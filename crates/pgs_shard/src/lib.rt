@@ -1,0 +1,14 @@
+//! One member's store with its history: the items that it was fed, applied in order to a device that may fail, and damage.
+#![tactic(auto)]
+
+mod applied;
+mod apply_error;
+mod event;
+mod items_beyond;
+mod shard;
+mod writing;
+
+pub use applied::Applied;
+pub use apply_error::ApplyError;
+pub use event::Event;
+pub use shard::Shard;

@@ -1,0 +1,2 @@
+-- The members of a group, each with its history.
+pub mod Members

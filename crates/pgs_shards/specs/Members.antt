@@ -1,0 +1,36 @@
+-- The shards of a group's members are seen as the list of their OSDs, each with its events, the newest first.
+use Rattle.std.specs.Prelude.{ℕ, Bool, ◌+◌, ◌==◌, nat_lt, List, [], ◌∷◌, length, map, if◌then◌else◌}
+use Rattle.pgs_shard.specs.Feeds.{fed}
+use Rattle.pgs_shard.specs.Stores.{applied}
+use Rattle.pgs_shard.specs.declared.event.Event.{Event}
+use Rattle.pgs_shard.specs.declared.event.Event.TheVariants as events
+
+pub record Member : Type 0 where
+  pub osd : ℕ
+  pub past : List Event
+
+-- members of which nothing is known yet
+abbrev pub beginning : List ℕ → List Member
+beginning osds = map (λ osd. record { osd = osd; past = [] }) osds
+
+-- the events of an OSD: none where it is no member
+abbrev pub past_in : List Member → ℕ → List Event
+past_in [] osd = []
+past_in (member ∷ members) osd = if member.osd == osd then member.past else past_in members osd
+
+-- the members after an event of an OSD
+abbrev pub with_event : ℕ → Event → List Member → List Member
+with_event osd event [] = []
+with_event osd event (member ∷ members) =
+    if member.osd == osd then record member { past = event ∷ member.past } ∷ members else member ∷ with_event osd event members
+
+-- ---- applying the next item
+
+-- whether an item waits that was fed and isn't applied
+abbrev pub waits : List Event → Bool
+waits past = nat_lt (applied past) (length (fed past))
+
+-- the members after an OSD applied its next item, if one waits
+abbrev pub with_applied : ℕ → List Member → List Member
+with_applied osd members =
+    if waits (past_in members osd) then with_event osd (events.Applied (applied (past_in members osd) + 1)) members else members
