@@ -1,0 +1,110 @@
+-- What a single step does, and the answer that is kept with it.
+use Rattle.std.specs.Prelude.{ℕ, ◌+◌, nat_lt, List, ◌∷◌, reverse, if◌then◌else◌}
+use Rattle.pgs_lines.specs.declared.object.Object.{Object}
+use Rattle.pgs_lines.specs.declared.snap.Snap.{Snap}
+use Rattle.pgs_lines.specs.declared.snap.Snap.TheVariants.{Head}
+use Rattle.pgs_lines.specs.declared.damage.Damage.{Damage as LineDamage}
+use Rattle.pgs_lines.specs.declared.damage.Damage.TheVariants as line_damages
+use Rattle.pgs_lines.specs.declared.basic.Basic.{Basic}
+use Rattle.pgs_lines.specs.declared.basic.Basic.TheVariants as basics
+use Rattle.pgs_lines.specs.declared.apply_answer.ApplyAnswer.{ApplyAnswer}
+use Rattle.pgs_lines.specs.declared.apply_answer.ApplyAnswer.TheVariants as applies
+use Rattle.pgs_lines.specs.declared.done.Done.TheVariants as dones
+use Rattle.pgs_name.specs.Bounds.{kept_key}
+use Rattle.pgs_name.specs.declared.family.Family.{Family}
+use Rattle.pgs_name.specs.declared.object_id.TheConstants.{HEAD}
+use Rattle.pgs_copy.specs.declared.damage.Damage.{Damage}
+use Rattle.pgs_copy.specs.declared.damage.Damage.TheVariants.{Flip}
+use Rattle.pgs_request.specs.declared.op.Op.{Op}
+use Rattle.pgs_request.specs.declared.req_id.ReqId.{ReqId}
+use Rattle.pgs_op.specs.declared.write.Write.{Write}
+use Rattle.pgs_op_log.specs.Logs.{newer}
+use Rattle.pgs_history.specs.Log.{log}
+use Rattle.pgs_history.specs.Members.{pulled}
+use Rattle.pgs_history.specs.Answers.{submit_answer, collect_answer, last_number, tell_answer}
+use Rattle.pgs_history.specs.After.{after_submit, after_collect, after_pull, after_tell}
+use Rattle.pgs_shard.specs.Stores.{applied}
+use Rattle.pgs_shard.specs.declared.event.Event.{Event as ShardEvent}
+use Rattle.pgs_shard.specs.declared.event.Event.TheVariants.{Fed, Damaged}
+use Rattle.pgs_shards.specs.Members.{Member, past_in, with_event, waits, with_applied}
+use Rattle.pgs_world.specs.State.{WorldState}
+
+-- ---- what the words of a line name
+
+-- a key that is the name is kept as the empty key
+abbrev pub family_of : Object → Family
+family_of object = record { space = object.space; key = kept_key object.key object.name; name = object.name }
+
+abbrev pub snap_of : Snap → ℕ
+snap_of Head = HEAD
+
+abbrev pub damage_of : LineDamage → Damage
+damage_of (line_damages.Flip at xor) = Flip at xor
+
+abbrev pub id_of : ℕ → ℕ → ReqId
+id_of client serial = record { client = client; serial = serial }
+
+abbrev pub write_of : ℕ → ℕ → Object → Op → Write
+write_of client serial object op = record { id = id_of client serial; family = family_of object; op = op }
+
+-- ---- the group's steps
+
+abbrev pub after_write : WorldState → ℕ → ℕ → Object → Op → WorldState
+after_write w client serial object op = record w {
+  past = after_submit w.made w.past (write_of client serial object op);
+  done = dones.Write client serial object op (submit_answer w.made w.past (write_of client serial object op)) ∷ w.done;
+}
+
+abbrev pub after_collecting : WorldState → ℕ → ℕ → ℕ → WorldState
+after_collecting w group client serial = record w {
+  past = after_collect w.made w.past (id_of client serial);
+  done = dones.Collect group client serial (collect_answer w.made w.past (id_of client serial)) ∷ w.done;
+}
+
+-- an OSD is fed the items that it pulls, where there are some
+abbrev pub given : WorldState → ℕ → ShardEvent
+given w osd = Fed (pulled w.past osd) (reverse (newer (pulled w.past osd) (log w.past)))
+
+abbrev pub after_pulling : WorldState → ℕ → ℕ → WorldState
+after_pulling w group osd = record w {
+  past = after_pull w.past osd;
+  members = if nat_lt (pulled w.past osd) (last_number w.past) then with_event osd (given w osd) w.members else w.members;
+  done = dones.Pull group osd (pulled w.past osd) (last_number w.past) ∷ w.done;
+}
+
+-- an OSD tells how far it has applied
+abbrev pub applied_by : WorldState → ℕ → ℕ
+applied_by w osd = applied (past_in w.members osd)
+
+abbrev pub after_telling : WorldState → ℕ → ℕ → WorldState
+after_telling w group osd = record w {
+  past = after_tell w.past osd (applied_by w osd);
+  done = dones.Tell group osd (tell_answer w.past osd (applied_by w osd)) ∷ w.done;
+}
+
+-- ---- the shards' steps
+
+abbrev pub apply_answer : WorldState → ℕ → ApplyAnswer
+apply_answer w osd = if waits (past_in w.members osd) then applies.Applied (applied_by w osd + 1) else applies.NotYet (applied_by w osd)
+
+abbrev pub after_applying : WorldState → ℕ → ℕ → WorldState
+after_applying w group osd = record w {
+  members = with_applied osd w.members;
+  done = dones.Apply group osd (apply_answer w osd) ∷ w.done;
+}
+
+abbrev pub after_damaging : WorldState → ℕ → ℕ → Object → Snap → LineDamage → WorldState
+after_damaging w group osd object snap damage = record w {
+  members = with_event osd (Damaged (family_of object) (snap_of snap) (damage_of damage)) w.members;
+  done = dones.Damage group osd object snap damage ∷ w.done;
+}
+
+-- ---- any of them
+
+abbrev pub after_basic : WorldState → Basic → WorldState
+after_basic w (basics.Write client serial object op) = after_write w client serial object op
+after_basic w (basics.Collect group client serial) = after_collecting w group client serial
+after_basic w (basics.Pull group osd) = after_pulling w group osd
+after_basic w (basics.Apply group osd) = after_applying w group osd
+after_basic w (basics.Tell group osd) = after_telling w group osd
+after_basic w (basics.Damage group osd object snap damage) = after_damaging w group osd object snap damage

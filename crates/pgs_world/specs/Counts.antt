@@ -1,0 +1,33 @@
+-- How far the members are: what was told is applied, what is applied was pulled, what was pulled stands in the log.
+use Rattle.std.specs.Prelude.{ℕ, Bool, ◌≡◌, ◌≤◌, ◌==◌, true, List, length, map}
+use Rattle.std.specs.List.{list_any}
+use Rattle.pgs_history.specs.Log.{log}
+use Rattle.pgs_history.specs.Members.{pulled, told}
+use Rattle.pgs_history.specs.Facts.{upto}
+use Rattle.pgs_history.specs.Legal.{IsLegal}
+use Rattle.pgs_history.specs.declared.event.Event.{Event}
+use Rattle.pgs_history.specs.declared.made.Made.{Made}
+use Rattle.pgs_shard.specs.Feeds.{fed}
+use Rattle.pgs_shard.specs.Stores.{applied}
+use Rattle.pgs_shard.specs.Legal.{IsLegal as IsLegalShard}
+use Rattle.pgs_shard.specs.declared.event.Event.{Event as ShardEvent}
+use Rattle.pgs_shards.specs.Members.{Member, past_in}
+use Rattle.pgs_world.specs.State.{WorldState}
+
+-- an OSD is a member
+abbrev pub is_member : Made → ℕ → Bool
+is_member made osd = list_any (λ other. other == osd) made.members
+
+-- A member's history, beside that of its group: it was fed the items of the log up to the number that it pulled, in
+-- order; it applied some of them, from the first on; and it told of no more than it had applied.
+pub record IsInStep (past : List Event) (osd : ℕ) (shard : List ShardEvent) : Type 0 where
+  pub shard_legal : IsLegalShard shard
+  pub items : fed shard ≡ upto (pulled past osd) (log past)
+  pub told_applied : told past osd ≤ applied shard
+  pub applied_pulled : applied shard ≤ pulled past osd
+  pub pulled_log : pulled past osd ≤ length (log past)
+
+pub record AreInStep (w : WorldState) : Type 0 where
+  pub legal : IsLegal w.made w.past
+  pub named : map (λ member. member.osd) w.members ≡ w.made.members
+  pub each : (osd : ℕ) → is_member w.made osd ≡ true → IsInStep w.past osd (past_in w.members osd)

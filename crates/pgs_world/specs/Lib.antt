@@ -1,0 +1,7 @@
+-- What the steps of a script do, and what then holds.
+pub mod State
+pub mod Basics
+pub mod Findings
+pub mod Steps
+pub mod Counts
+pub mod Acknowledged

@@ -1,0 +1,2 @@
+//! A pool's group with the shards of its members, changed by the steps of a script.
+#![tactic(auto)]
