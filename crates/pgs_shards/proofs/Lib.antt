@@ -1,0 +1,2 @@
+-- Laws of the members' histories.
+pub mod Members

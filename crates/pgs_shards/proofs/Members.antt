@@ -1,0 +1,57 @@
+-- An event of one OSD is the newest in its history, and leaves those of the others.
+use Rattle.std.proofs.Common.{◌≡◌, ℕ, ◌==◌, ◌||◌, Bool, true, false, cond, List, [], ◌∷◌, refl, sym, ap, ◌∙◌, arith, inl, inr, map}
+use Rattle.std.specs.List.{list_any}
+use Rattle.std.proofs.lemmas.Bool.Decides.{eqb_tells}
+use Rattle.pgs_bytes.proofs.Facts.{true_false, true_or_false}
+use Rattle.pgs_shard.specs.declared.event.Event.{Event}
+use Rattle.pgs_shards.specs.Members.{Member, beginning, past_in, with_event}
+
+-- an OSD has a history
+abbrev pub has : List Member → ℕ → Bool
+has members osd = list_any (λ other. other == osd) (map (λ member. member.osd) members)
+
+pub past_in_here : (members : List Member) (osd : ℕ) (event : Event) → has members osd ≡ true → past_in (with_event osd event members) osd ≡ event ∷ past_in members osd
+past_in_here [] osd event there = absurd (true_false (sym there))
+past_in_here (member ∷ members) osd event there =
+    let P : Bool → Type 0 = λ v. (member.osd == osd) ≡ v → (v || has members osd) ≡ true
+        → past_in (cond v (record member { past = event ∷ member.past } ∷ members) (member ∷ with_event osd event members)) osd ≡ event ∷ cond v member.past (past_in members osd) in
+    (elim (member.osd == osd) as P [
+      | true ↦ λ same among. ap (λ v. cond v (event ∷ member.past) (past_in members osd)) same
+      | false ↦ λ other among. ap (λ v. cond v member.past (past_in (with_event osd event members) osd)) other ∙ past_in_here members osd event among
+    ]) refl there
+
+pub past_in_other : (members : List Member) (osd q : ℕ) (event : Event) → (osd == q) ≡ false → past_in (with_event osd event members) q ≡ past_in members q
+past_in_other [] osd q event apart = refl
+past_in_other (member ∷ members) osd q event apart =
+    let P : Bool → Type 0 = λ v. (member.osd == osd) ≡ v
+        → past_in (cond v (record member { past = event ∷ member.past } ∷ members) (member ∷ with_event osd event members)) q ≡ past_in (member ∷ members) q in
+    (elim (member.osd == osd) as P [
+      | true ↦ λ same.
+          let differs : (member.osd == q) ≡ false = elim (eqb_tells member.osd osd) [
+            | inl is ↦ ap (λ n. n == q) is.1 ∙ apart
+            | inr not ↦ absurd (true_false (sym same ∙ not.0))
+          ] in
+          ap (λ v. cond v (event ∷ member.past) (past_in members q)) differs ∙ sym (ap (λ v. cond v member.past (past_in members q)) differs)
+      | false ↦ λ other. ap (λ rest. cond (member.osd == q) member.past rest) (past_in_other members osd q event apart)
+    ]) refl
+
+pub osds_kept : (members : List Member) (osd : ℕ) (event : Event) → map (λ member. member.osd) (with_event osd event members) ≡ map (λ member. member.osd) members
+osds_kept [] osd event = refl
+osds_kept (member ∷ members) osd event =
+    (elim (member.osd == osd) as (λ v. map (λ m. m.osd) (cond v (record member { past = event ∷ member.past } ∷ members) (member ∷ with_event osd event members))
+        ≡ member.osd ∷ map (λ m. m.osd) members) [
+      | true ↦ refl
+      | false ↦ ap (λ osds. member.osd ∷ osds) (osds_kept members osd event)
+    ])
+
+pub osds_beginning : (osds : List ℕ) → map (λ member. member.osd) (beginning osds) ≡ osds
+osds_beginning [] = refl
+osds_beginning (osd ∷ osds) = ap (λ rest. osd ∷ rest) (osds_beginning osds)
+
+pub past_beginning : (osds : List ℕ) (osd : ℕ) → past_in (beginning osds) osd ≡ []
+past_beginning [] osd = refl
+past_beginning (other ∷ osds) osd =
+    (elim (other == osd) as (λ v. cond v [] (past_in (beginning osds) osd) ≡ []) [
+      | true ↦ refl
+      | false ↦ past_beginning osds osd
+    ])

@@ -1,0 +1,4 @@
+-- What every step of a script keeps.
+pub mod Items
+pub mod InStep
+pub mod Acks
