@@ -2,3 +2,4 @@
 pub mod Items
 pub mod InStep
 pub mod Acks
+pub mod Sound

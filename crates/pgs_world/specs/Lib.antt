@@ -5,3 +5,4 @@ pub mod Findings
 pub mod Steps
 pub mod Counts
 pub mod Acknowledged
+pub mod Sound
