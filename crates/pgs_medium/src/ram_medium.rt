@@ -1,5 +1,6 @@
 ghost use Rattle.std.specs.Prelude.{◌≡◌, Some};
 ghost use Rattle.std.specs.Option.{option_copied};
+ghost use Rattle.pgs_store.specs.Stores.{nothing_stored};
 ghost use Rattle.pgs_medium.specs.Calls.{is_named, one_more};
 ghost use Rattle.pgs_medium.specs.Device.{IsWritten, IsDamaged, empty_device};
 ghost use Rattle.pgs_medium.specs.Ram.{device_of};
@@ -29,9 +30,10 @@ pub struct RamMedium {
 
 impl RamMedium {
     /// A device that holds nothing, and of which no call was made.
-    #[tactic(auto, using(crate::proofs::Devices::begun))]
+    #[tactic(auto, using(crate::proofs::Devices::begun, crate::proofs::Devices::same_stored))]
     pub fn new(alloc: Global, failing: Items<FailingCall>) -> RamMedium
-        ensures { device_of result ≡ empty_device (Some failing) }
+        ensures device { device_of result ≡ empty_device (Some failing) }
+        ensures stored { (device_of result).stored ≡ nothing_stored }
     {
         RamMedium {
             alloc,

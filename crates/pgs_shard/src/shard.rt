@@ -1,5 +1,5 @@
 ghost use Rattle.std.specs.Prelude.{◌≡◌, ◌≤◌, [], length, reverse, OnOk, OnErr, IfSome, false};
-ghost use Rattle.pgs_store.specs.Stores.{AreSame, nothing_stored};
+ghost use Rattle.pgs_store.specs.Stores.{nothing_stored};
 ghost use Rattle.pgs_medium.specs.Calls.{is_named, one_more};
 ghost use Rattle.pgs_medium.specs.Device.{IsDamaged};
 ghost use Rattle.pgs_medium.specs.declared.call_kind.CallKind.TheVariants.{Write};
@@ -51,9 +51,8 @@ impl<M: Medium> Model for Shard<M> {
 
 impl<M: Medium> Shard<M> {
     /// A shard over a device that holds nothing. It was fed nothing yet.
-    #[tactic(auto, using(pgs_medium::proofs::Devices::same_stored))]
     pub fn new(alloc: Global, medium: M, osd: u32) -> Shard<M>
-        requires { AreSame (M.device medium).stored nothing_stored }
+        requires { (M.device medium).stored ≡ nothing_stored }
         ensures { result ≡ record { osd = osd; past = []; medium = medium } }
     {
         Shard {

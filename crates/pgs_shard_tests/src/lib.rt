@@ -1,0 +1,5 @@
+//! Tests of devices and shards.
+#![tactic(auto)]
+
+#[cfg(test)]
+mod tests;
