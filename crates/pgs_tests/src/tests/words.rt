@@ -83,7 +83,7 @@ fn lines(rt: HostRuntime) -> Result<(), Fail> {
         b"end ".as_slice(),
         b"osd 0 0".as_slice(),
         b"group 0 1".as_slice(),
-        b"write 1 2 - - a - full hex:".as_slice(),
+        b"write 1 2 - - a - full hex:0".as_slice(),
         b"damage 0 2 - - a head flip 0 256".as_slice(),
         b"damage 0 2 - - a head flip 0 0".as_slice(),
         b"sweep 0  deep".as_slice(),

@@ -1,0 +1,4 @@
+-- Laws of the order.
+pub mod Keeps
+pub mod Stays
+pub mod Powers

@@ -1,0 +1,3 @@
+-- Scripts and their order.
+pub mod Order
+pub mod Ordered

@@ -1,0 +1,133 @@
+-- Which lines of a script may follow which.
+use Rattle.std.specs.Prelude.{ℕ, ◌==◌, ◌^◌, ◌&&◌, ◌||◌, Bool, true, false, not, nat_lt, nat_le, List, [], ◌∷◌, ◌++◌, length, Option, Some, None, is_some, is_none}
+use Rattle.std.specs.List.{list_any, list_all}
+use Rattle.pgs_lines.specs.declared.object.Object.{Object}
+use Rattle.pgs_lines.specs.declared.basic.Basic.{Basic}
+use Rattle.pgs_lines.specs.declared.basic.Basic.TheVariants as basics
+use Rattle.pgs_lines.specs.declared.step.Step.{Step}
+use Rattle.pgs_lines.specs.declared.step.Step.TheVariants as steps
+use Rattle.pgs_lines.specs.declared.line.Line.{Line}
+use Rattle.pgs_lines.specs.declared.line.Line.TheVariants as lines
+use Rattle.pgs_order.specs.declared.declarations.Osd.{Osd}
+use Rattle.pgs_order.specs.declared.declarations.Group.{Group}
+use Rattle.pgs_order.specs.declared.declarations.Declarations.{Declarations}
+use Rattle.pgs_order.specs.declared.step_script.StepScript.{StepScript}
+
+-- ---- before the first line
+
+abbrev pub nothing_declared : Declarations
+nothing_declared = record { bits = None; osds = []; groups = [] }
+
+abbrev pub nothing_said : StepScript
+nothing_said = record { declared = nothing_declared; steps = []; over = false }
+
+-- ---- lines that say nothing
+
+-- an empty line, and one that begins with `#`
+abbrev pub passed : List ℕ → Bool
+passed [] = true
+passed (b ∷ bs) = b == 35
+
+-- ---- what is declared
+
+abbrev pub has : List ℕ → ℕ → Bool
+has numbers number = list_any (λ n. n == number) numbers
+
+abbrev pub has_osd : List Osd → ℕ → Bool
+has_osd osds number = list_any (λ osd. osd.osd == number) osds
+
+abbrev pub has_group : List Group → ℕ → Bool
+has_group groups number = list_any (λ group. group.group == number) groups
+
+-- whether a group has this number and this member
+abbrev pub is_in : ℕ → ℕ → Group → Bool
+is_in number osd group = (group.group == number) && has group.members osd
+
+-- whether an OSD is a member of a declared group
+abbrev pub is_member : List Group → ℕ → ℕ → Bool
+is_member groups number osd = list_any (is_in number osd) groups
+
+abbrev pub are_declared : List Osd → List ℕ → Bool
+are_declared osds members = list_all (λ member. has_osd osds member) members
+
+abbrev pub are_distinct : List ℕ → Bool
+are_distinct [] = true
+are_distinct (n ∷ ns) = not (has ns n) && are_distinct ns
+
+-- whether a number is below 2^bits
+abbrev pub is_below : ℕ → ℕ → Bool
+is_below bits number = nat_lt number (2 ^ bits)
+
+-- whether a number is that of a group of the pool
+abbrev pub is_of_pool : Option ℕ → ℕ → Bool
+is_of_pool None number = false
+is_of_pool (Some bits) number = is_below bits number
+
+abbrev pub has_all : Option ℕ → ℕ → Bool
+has_all None count = false
+has_all (Some bits) count = count == 2 ^ bits
+
+-- whether the pool is declared, and each of its groups: no group is declared twice
+abbrev pub are_whole : Declarations → Bool
+are_whole declared = has_all declared.bits (length declared.groups)
+
+-- ---- which line may stand where
+
+-- once, before all other declarations; for now the pool has one group
+abbrev pub pool_follows : Declarations → ℕ → Bool
+pool_follows declared bits = is_none declared.bits && (bits == 0)
+
+-- behind the pool and before the groups, each number once
+abbrev pub osd_follows : Declarations → ℕ → Bool
+osd_follows declared osd = is_some declared.bits && (length declared.groups == 0) && not (has_osd declared.osds osd)
+
+-- behind the OSDs, each group of the pool once; its members are declared and distinct
+abbrev pub group_follows : Declarations → ℕ → List ℕ → Bool
+group_follows declared group members =
+    is_of_pool declared.bits group && not (has_group declared.groups group) && are_declared declared.osds members && are_distinct members
+
+-- an object with no space and no key: for now no line has others
+abbrev pub is_unplaced : Object → Bool
+is_unplaced object = (length object.space == 0) && (length object.key == 0)
+
+-- whether what a step names is declared
+abbrev pub basic_is_named : List Group → Basic → Bool
+basic_is_named groups (basics.Write client serial object op) = is_unplaced object
+basic_is_named groups (basics.Collect group client serial) = has_group groups group
+basic_is_named groups (basics.Pull group osd) = is_member groups group osd
+basic_is_named groups (basics.Apply group osd) = is_member groups group osd
+basic_is_named groups (basics.Tell group osd) = is_member groups group osd
+basic_is_named groups (basics.Damage group osd object snap damage) = is_member groups group osd && is_unplaced object
+
+abbrev pub step_is_named : List Group → Step → Bool
+step_is_named groups (steps.Basic basic) = basic_is_named groups basic
+step_is_named groups (steps.Settle group) = has_group groups group
+step_is_named groups (steps.Sweep group kind) = has_group groups group
+
+-- a step may stand where all is declared, and `end` there and where nothing is
+abbrev pub allows : StepScript → Line → Bool
+allows s (lines.Pool bits) = pool_follows s.declared bits
+allows s (lines.Osd osd slots) = osd_follows s.declared osd
+allows s (lines.Group group epoch members) = group_follows s.declared group members
+allows s (lines.Step step) = are_whole s.declared && step_is_named s.declared.groups step
+allows s lines.End = is_none s.declared.bits || are_whole s.declared
+
+-- ---- limits
+
+-- an OSD's number is at most 63, it has at most 8 slots, and there are at most 16 OSDs; a group has at most 8 members
+abbrev pub passes : StepScript → Line → Bool
+passes s (lines.Pool bits) = false
+passes s (lines.Osd osd slots) = nat_lt 63 osd || nat_lt 8 slots || nat_le 16 (length s.declared.osds)
+passes s (lines.Group group epoch members) = nat_lt 8 (length members)
+passes s (lines.Step step) = false
+passes s lines.End = false
+
+-- ---- what was said with a line more
+
+abbrev pub after : StepScript → Line → StepScript
+after s (lines.Pool bits) = record s { declared = record s.declared { bits = Some bits } }
+after s (lines.Osd osd slots) = record s { declared = record s.declared { osds = s.declared.osds ++ record { osd = osd; slots = slots } ∷ [] } }
+after s (lines.Group group epoch members) =
+    record s { declared = record s.declared { groups = s.declared.groups ++ record { group = group; epoch = epoch; members = members } ∷ [] } }
+after s (lines.Step step) = record s { steps = s.steps ++ step ∷ [] }
+after s lines.End = record s { over = true }

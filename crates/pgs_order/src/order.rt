@@ -1,0 +1,152 @@
+ghost use Rattle.std.specs.Prelude.{◌≡◌, IfOk, OnOk};
+ghost use Rattle.pgs_order.specs.Order as order;
+
+use crate::declarations::{Declarations, Group, Osd};
+use crate::members::{
+    are_declared, are_distinct, are_whole, has_group, has_osd, is_member, is_of_pool,
+};
+use crate::step_script::StepScript;
+use pgs_lines::{Basic, Line, Object, Step};
+use sqlite_items::Items;
+use std::alloc::{AllocError, Global};
+
+/// Before the first line.
+pub fn nothing_said(alloc: Global) -> StepScript
+    ensures { result ≡ order.nothing_said }
+{
+    StepScript {
+        declared: Declarations::new(alloc),
+        steps: Items::new(alloc),
+        over: false,
+    }
+}
+
+/// Whether a text is passed over: an empty one, and one that begins with `#`.
+pub fn passed(text: &[u8]) -> bool
+    ensures { result ≡ order.passed text.now }
+{
+    match text.first() {
+        Some(byte) => *byte == b'#',
+        None => true,
+    }
+}
+
+fn pool_follows(declared: &Declarations, bits: u32) -> bool
+    ensures { result ≡ order.pool_follows declared.now bits }
+{
+    declared.bits.is_none() && bits == 0
+}
+
+fn osd_follows(declared: &Declarations, osd: u32) -> bool
+    ensures { result ≡ order.osd_follows declared.now osd }
+{
+    declared.bits.is_some() && declared.groups.len() == 0 && !has_osd(declared.osds.as_slice(), osd)
+}
+
+fn group_follows(declared: &Declarations, group: u32, members: &[u32]) -> bool
+    ensures { result ≡ order.group_follows declared.now group members.now }
+{
+    is_of_pool(declared.bits, group)
+        && !has_group(declared.groups.as_slice(), group)
+        && are_declared(declared.osds.as_slice(), members)
+        && are_distinct(members)
+}
+
+fn is_unplaced(object: &Object) -> bool
+    ensures { result ≡ order.is_unplaced object.now }
+{
+    object.space.is_empty() && object.key.is_empty()
+}
+
+fn basic_is_named(groups: &[Group], basic: &Basic) -> bool
+    ensures { result ≡ order.basic_is_named groups.now basic.now }
+{
+    match basic {
+        Basic::Write { object, .. } => is_unplaced(object),
+        Basic::Collect { group, .. } => has_group(groups, *group),
+        Basic::Pull { group, osd } => is_member(groups, *group, *osd),
+        Basic::Apply { group, osd } => is_member(groups, *group, *osd),
+        Basic::Tell { group, osd } => is_member(groups, *group, *osd),
+        Basic::Damage {
+            group,
+            osd,
+            object,
+            ..
+        } => is_member(groups, *group, *osd) && is_unplaced(object),
+    }
+}
+
+fn step_is_named(groups: &[Group], step: &Step) -> bool
+    ensures { result ≡ order.step_is_named groups.now step.now }
+{
+    match step {
+        Step::Basic { basic } => basic_is_named(groups, basic),
+        Step::Settle { group } => has_group(groups, *group),
+        Step::Sweep { group, .. } => has_group(groups, *group),
+    }
+}
+
+/// Whether a line may stand here, whatever limit it passes.
+pub fn allows(script: &StepScript, line: &Line) -> bool
+    ensures { result ≡ order.allows script.now line.now }
+{
+    match line {
+        Line::Pool { bits } => pool_follows(&script.declared, *bits),
+        Line::Osd { osd, .. } => osd_follows(&script.declared, *osd),
+        Line::Group { group, members, .. } => {
+            group_follows(&script.declared, *group, members.as_slice())
+        }
+        Line::Step { step } => {
+            are_whole(&script.declared) && step_is_named(script.declared.groups.as_slice(), step)
+        }
+        Line::End => script.declared.bits.is_none() || are_whole(&script.declared),
+    }
+}
+
+/// Whether a line passes a limit.
+pub fn passes(script: &StepScript, line: &Line) -> bool
+    ensures { result ≡ order.passes script.now line.now }
+{
+    match line {
+        Line::Osd { osd, slots } => *osd > 63 || *slots > 8 || script.declared.osds.len() >= 16,
+        Line::Group { members, .. } => members.len() > 8,
+        _ => false,
+    }
+}
+
+/// What was said with a line more.
+pub fn after(script: StepScript, line: Line) -> Result<StepScript, AllocError>
+    ensures { IfOk result (λ s. s ≡ order.after script line) }
+{
+    let mut next = script;
+    match line {
+        Line::Pool { bits } => {
+            next.declared.bits = Some(bits);
+            Ok(next)
+        }
+        Line::Osd { osd, slots } => {
+            next.declared.osds.push(Osd { osd, slots })?;
+            Ok(next)
+        }
+        Line::Group {
+            group,
+            epoch,
+            members,
+        } => {
+            next.declared.groups.push(Group {
+                group,
+                epoch,
+                members,
+            })?;
+            Ok(next)
+        }
+        Line::Step { step } => {
+            next.steps.push(step)?;
+            Ok(next)
+        }
+        Line::End => {
+            next.over = true;
+            Ok(next)
+        }
+    }
+}
