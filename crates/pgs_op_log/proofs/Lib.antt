@@ -1,3 +1,4 @@
 -- Laws of logs.
 pub mod Newer
 pub mod Entries
+pub mod Last

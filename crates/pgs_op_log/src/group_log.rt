@@ -1,16 +1,18 @@
 ghost use Rattle.std.specs.Prelude.{◌≡◌, ◌+◌, ◌<◌, ◌≤◌, ◌^◌, [], ◌∷◌, IfOk, OnOk, OnErr, IfSome, None, length, reverse};
 ghost use Rattle.indexmap.specs.IndexMap.{get, spare};
 ghost use Rattle.pgs_op.specs.declared.limits.TheConstants.{LOG_MAX};
-ghost use Rattle.pgs_op_log.specs.Logs.{Log, AreNumbered, AreAlike, IsAppended, same_id, version_in, version_of_item, with_id, newer};
+ghost use Rattle.pgs_op_log.specs.Logs.{Log, AreNumbered, AreAlike, IsAppended, same_id, version_in, version_of_item, with_id, newer, newest_in};
 ghost use Rattle.pgs_op_log.specs.Kept.{log_of};
 
 use crate::copies::copies;
 use crate::log_error::LogError;
+use crate::newest::newest;
 use crate::requests;
 use crate::tails::tail;
 use indexmap::IndexMap;
 use pgs_medium::Item;
 use pgs_op::LOG_MAX;
+use pgs_range::FamilyRange;
 use pgs_request::{ReqId, Version};
 use sqlite_items::Items;
 use std::alloc::{AllocError, Global};
@@ -119,5 +121,12 @@ impl GroupLog {
         ensures { IfOk result (λ items. items ≡ reverse (newer from self.now.items)) }
     {
         copies(alloc, tail(&self.items, from))
+    }
+
+    /// The number of the newest item of a family in the range, and 0 where there is none.
+    pub fn newest_in(&self, range: &FamilyRange) -> u64
+        ensures { result ≡ newest_in range.now self.now.items }
+    {
+        newest(&self.items, range)
     }
 }
