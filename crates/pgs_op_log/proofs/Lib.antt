@@ -2,3 +2,4 @@
 pub mod Newer
 pub mod Entries
 pub mod Last
+pub mod Numbered
