@@ -52,6 +52,11 @@ pub no_bits : (c : ℕ) → bits_shifted 0 c ≡ c
 unfolding bits_shifted
 no_bits c = refl
 
+-- a byte is xored in, and then eight bits further
+pub fed_apart : (c byte : ℕ) → fed (bit_xor c byte) 0 ≡ fed c byte
+unfolding fed
+fed_apart c byte = ap (bits_shifted 8) (xor_zero_r (bit_xor c byte))
+
 -- a word is its higher bits and its low byte
 together : (high low : ℕ) → low < 256 → bit_xor (high * 2 ^ 8) low ≡ high * 256 + low
 together high low h =

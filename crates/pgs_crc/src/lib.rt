@@ -1,4 +1,4 @@
-//! The digest of bytes by tables, piece by piece.
+//! The digest of bytes by tables, piece by piece, and of a byte without them.
 #![tactic(auto)]
 
 mod crc;
@@ -6,4 +6,5 @@ mod shifts;
 mod tables;
 
 pub use crc::Crc;
+pub use shifts::feed;
 pub use tables::Tables;

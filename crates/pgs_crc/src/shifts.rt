@@ -27,3 +27,11 @@ pub fn one_byte(word: u32) -> u32
     }
     shifted
 }
+
+/// A byte taken in bit by bit, without tables.
+#[tactic(auto, using(crate::proofs::Steps::fed_apart))]
+pub fn feed(value: u32, byte: u8) -> u32
+    ensures { result ≡ fed value byte }
+{
+    one_byte(value ^ u32::from(byte))
+}

@@ -1,3 +1,5 @@
 -- Laws of logs.
 pub mod Newer
 pub mod Entries
+pub mod Last
+pub mod Numbered

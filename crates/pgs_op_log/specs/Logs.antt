@@ -1,7 +1,9 @@
 -- A log: its items and the requests that they came from, the newest first.
-use Rattle.std.specs.Prelude.{ℕ, ◌≡◌, ◌+◌, ◌≤◌, ◌<◌, ◌&&◌, Bool, nat_eq, nat_lt, if◌then◌else◌, List, [], ◌∷◌, length, Option, Some, None, Result, Ok, Err}
+use Rattle.std.specs.Prelude.{ℕ, ◌≡◌, ◌+◌, ◌≤◌, ◌<◌, ◌&&◌, Bool, nat_eq, nat_lt, max, if◌then◌else◌, List, [], ◌∷◌, length, Option, Some, None, Result, Ok, Err}
 use Rattle.pgs_request.specs.declared.req_id.ReqId.{ReqId}
 use Rattle.pgs_request.specs.declared.version.Version.{Version}
+use Rattle.pgs_range.specs.Ranges.{in_range}
+use Rattle.pgs_range.specs.declared.family_range.FamilyRange.{FamilyRange}
 use Rattle.pgs_op.specs.declared.limits.TheConstants.{LOG_MAX}
 use Rattle.pgs_medium.specs.declared.item.Item.{Item}
 use Rattle.pgs_op_log.specs.declared.log_error.LogError.{LogError}
@@ -41,6 +43,20 @@ with_id (Some id) version ids = (id, version) ∷ ids
 abbrev pub newer : ℕ → List Item → List Item
 newer from [] = []
 newer from (item ∷ items) = if nat_lt from item.number then item ∷ newer from items else []
+
+-- an item has a higher number than `from`
+abbrev pub is_above : ℕ → Item → Bool
+is_above from item = nat_lt from item.number
+
+-- the number of the newest item of a family in the range, and 0 where there is none
+abbrev pub newest_in : FamilyRange → List Item → ℕ
+newest_in range [] = 0
+newest_in range (item ∷ items) = if in_range range item.family then item.number else newest_in range items
+
+-- the greatest number of an item of a family in the range, and 0 where there is none
+abbrev pub greatest_in : FamilyRange → List Item → ℕ
+greatest_in range [] = 0
+greatest_in range (item ∷ items) = max (if in_range range item.family then item.number else 0) (greatest_in range items)
 
 -- two logs are the same but for their room
 pub record AreAlike (a b : Log) : Type 0 where

@@ -1,16 +1,18 @@
-ghost use Rattle.std.specs.Prelude.{◌≡◌, ◌+◌, ◌<◌, ◌≤◌, ◌^◌, [], ◌∷◌, IfOk, OnOk, OnErr, IfSome, None, length, reverse};
+ghost use Rattle.std.specs.Prelude.{◌≡◌, ◌+◌, ◌<◌, ◌≤◌, ◌^◌, [], ◌∷◌, IfOk, OnOk, OnErr, IfSome, None, length, reverse, filter};
 ghost use Rattle.indexmap.specs.IndexMap.{get, spare};
 ghost use Rattle.pgs_op.specs.declared.limits.TheConstants.{LOG_MAX};
-ghost use Rattle.pgs_op_log.specs.Logs.{Log, AreNumbered, AreAlike, IsAppended, same_id, version_in, version_of_item, with_id, newer};
+ghost use Rattle.pgs_op_log.specs.Logs.{Log, AreNumbered, AreAlike, IsAppended, same_id, version_in, version_of_item, with_id, newer, is_above, newest_in, greatest_in};
 ghost use Rattle.pgs_op_log.specs.Kept.{log_of};
 
 use crate::copies::copies;
 use crate::log_error::LogError;
+use crate::newest::newest;
 use crate::requests;
 use crate::tails::tail;
 use indexmap::IndexMap;
 use pgs_medium::Item;
 use pgs_op::LOG_MAX;
+use pgs_range::FamilyRange;
 use pgs_request::{ReqId, Version};
 use sqlite_items::Items;
 use std::alloc::{AllocError, Global};
@@ -115,9 +117,20 @@ impl GroupLog {
     }
 
     /// Copies of the items with higher numbers than `from`, the oldest first.
+    #[tactic(auto, using(crate::proofs::Numbered::newer_is))]
     pub fn items_after(&self, alloc: Global, from: u64) -> Result<Items<Item>, AllocError>
-        ensures { IfOk result (λ items. items ≡ reverse (newer from self.now.items)) }
+        ensures newer { IfOk result (λ items. items ≡ reverse (newer from self.now.items)) }
+        ensures above { IfOk result (λ items. items ≡ reverse (filter (is_above from) self.now.items)) }
     {
         copies(alloc, tail(&self.items, from))
+    }
+
+    /// The number of the newest item of a family in the range, and 0 where there is none.
+    #[tactic(auto, using(crate::proofs::Numbered::newest_is))]
+    pub fn newest_in(&self, range: &FamilyRange) -> u64
+        ensures newest { result ≡ newest_in range.now self.now.items }
+        ensures greatest { result ≡ greatest_in range.now self.now.items }
+    {
+        newest(&self.items, range)
     }
 }

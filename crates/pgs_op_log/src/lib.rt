@@ -4,6 +4,7 @@
 mod copies;
 mod group_log;
 mod log_error;
+mod newest;
 mod requests;
 mod tails;
 

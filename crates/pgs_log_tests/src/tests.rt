@@ -1,0 +1,6 @@
+//! Each file tests one topic.
+mod logs;
+mod making;
+mod orders;
+mod ranges;
+mod writes;

@@ -1,0 +1,3 @@
+-- Laws of the order.
+pub mod Turned
+pub mod Hashing
