@@ -1,4 +1,4 @@
-ghost use Rattle.std.specs.Prelude.{◌≡◌, [], reverse, slice_get, IfOk, OnOk, OnErr};
+ghost use Rattle.std.specs.Prelude.{◌≡◌, [], reverse, IfOk, OnOk, OnErr};
 ghost use Rattle.pgs_history.specs.Answers.{submit_answer, behind, collect_answer, tell_answer};
 ghost use Rattle.pgs_history.specs.Legal.{IsLegal};
 ghost use Rattle.pgs_history.specs.After.{after_submit, after_collect, after_pull, after_tell};
@@ -225,11 +225,11 @@ impl Group {
         &self.made
     }
 
-    /// The family at a place, in the order of the first writes, from 0.
-    pub fn family_at(&self, at: usize) -> Option<&Family>
-        ensures { option_copied result ≡ slice_get (families (log self.now.past)) at }
+    /// The families that were written, in the order of their first writes.
+    pub fn families(&self) -> &[Family]
+        ensures { result.now ≡ families (log self.now.past) }
     {
-        self.clean.family_at(at)
+        self.clean.families()
     }
 
     /// The head of a family as the accepted writes alone make it.

@@ -1,4 +1,4 @@
-ghost use Rattle.std.specs.Prelude.{◌≡◌, ◌≤◌, [], slice_get, OnOk, OnErr};
+ghost use Rattle.std.specs.Prelude.{◌≡◌, ◌≤◌, [], OnOk, OnErr};
 ghost use Rattle.std.specs.Option.{option_copied};
 ghost use Rattle.pgs_name.specs.declared.object_id.TheConstants.{HEAD};
 ghost use Rattle.pgs_store.specs.Stores.{AreSame, nothing_stored, affected, noted};
@@ -40,11 +40,11 @@ impl CleanStore {
         self.store.copy(family, HEAD)
     }
 
-    /// The family at a place, in the order in which they were first written, from 0.
-    pub fn family_at(&self, at: usize) -> Option<&Family>
-        ensures { option_copied result ≡ slice_get (touched_by self.now) at }
+    /// The families that were written, in the order of their first writes.
+    pub fn families(&self) -> &[Family]
+        ensures { result.now ≡ touched_by self.now }
     {
-        self.store.family_at(at)
+        self.store.families()
     }
 
     /// How many bytes its copies hold.

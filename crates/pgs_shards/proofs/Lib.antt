@@ -1,2 +1,3 @@
 -- Laws of the members' histories.
 pub mod Members
+pub mod Places

@@ -14,7 +14,7 @@ pub past_in_here : (members : List Member) (osd : ℕ) (event : Event) → has m
 past_in_here [] osd event there = absurd (true_false (sym there))
 past_in_here (member ∷ members) osd event there =
     let P : Bool → Type 0 = λ v. (member.osd == osd) ≡ v → (v || has members osd) ≡ true
-        → past_in (cond v (record member { past = event ∷ member.past } ∷ members) (member ∷ with_event osd event members)) osd ≡ event ∷ cond v member.past (past_in members osd) in
+    → past_in (cond v (record member { past = event ∷ member.past } ∷ members) (member ∷ with_event osd event members)) osd ≡ event ∷ cond v member.past (past_in members osd) in
     (elim (member.osd == osd) as P [
       | true ↦ λ same among. ap (λ v. cond v (event ∷ member.past) (past_in members osd)) same
       | false ↦ λ other among. ap (λ v. cond v member.past (past_in (with_event osd event members) osd)) other ∙ past_in_here members osd event among
@@ -24,7 +24,7 @@ pub past_in_other : (members : List Member) (osd q : ℕ) (event : Event) → (o
 past_in_other [] osd q event apart = refl
 past_in_other (member ∷ members) osd q event apart =
     let P : Bool → Type 0 = λ v. (member.osd == osd) ≡ v
-        → past_in (cond v (record member { past = event ∷ member.past } ∷ members) (member ∷ with_event osd event members)) q ≡ past_in (member ∷ members) q in
+    → past_in (cond v (record member { past = event ∷ member.past } ∷ members) (member ∷ with_event osd event members)) q ≡ past_in (member ∷ members) q in
     (elim (member.osd == osd) as P [
       | true ↦ λ same.
           let differs : (member.osd == q) ≡ false = elim (eqb_tells member.osd osd) [
@@ -39,7 +39,7 @@ pub osds_kept : (members : List Member) (osd : ℕ) (event : Event) → map (λ 
 osds_kept [] osd event = refl
 osds_kept (member ∷ members) osd event =
     (elim (member.osd == osd) as (λ v. map (λ m. m.osd) (cond v (record member { past = event ∷ member.past } ∷ members) (member ∷ with_event osd event members))
-        ≡ member.osd ∷ map (λ m. m.osd) members) [
+    ≡ member.osd ∷ map (λ m. m.osd) members) [
       | true ↦ refl
       | false ↦ ap (λ osds. member.osd ∷ osds) (osds_kept members osd event)
     ])

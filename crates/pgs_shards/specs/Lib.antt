@@ -1,2 +1,3 @@
 -- The members of a group, each with its history.
 pub mod Members
+pub mod Kept

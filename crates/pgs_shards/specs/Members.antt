@@ -2,6 +2,8 @@
 use Rattle.std.specs.Prelude.{ℕ, Bool, ◌+◌, ◌==◌, nat_lt, List, [], ◌∷◌, length, map, if◌then◌else◌}
 use Rattle.pgs_shard.specs.Feeds.{fed}
 use Rattle.pgs_shard.specs.Stores.{applied}
+use Rattle.pgs_shard.specs.declared.applied.Applied.{Applied}
+use Rattle.pgs_shard.specs.declared.applied.Applied.TheVariants as answers
 use Rattle.pgs_shard.specs.declared.event.Event.{Event}
 use Rattle.pgs_shard.specs.declared.event.Event.TheVariants as events
 
@@ -34,3 +36,12 @@ waits past = nat_lt (applied past) (length (fed past))
 abbrev pub with_applied : ℕ → List Member → List Member
 with_applied osd members =
     if waits (past_in members osd) then with_event osd (events.Applied (applied (past_in members osd) + 1)) members else members
+
+-- what applying answers: the number of the item that is applied, or that none waits
+abbrev pub apply_answer : List Event → Applied
+apply_answer past = if waits past then answers.Applied (applied past + 1) else answers.NotYet (applied past)
+
+-- the members with a history in place of an OSD's
+abbrev pub with_past : ℕ → List Event → List Member → List Member
+with_past osd past [] = []
+with_past osd past (member ∷ members) = if member.osd == osd then record member { past = past } ∷ members else member ∷ with_past osd past members

@@ -1,4 +1,4 @@
-ghost use Rattle.std.specs.Prelude.{◌≡◌, ℕ, [], slice_get, OnOk, OnErr, IfOk, if◌then◌else◌};
+ghost use Rattle.std.specs.Prelude.{◌≡◌, ℕ, [], OnOk, OnErr, IfOk, if◌then◌else◌};
 ghost use Rattle.std.specs.Option.{option_copied};
 ghost use Rattle.std.specs.Ordering.{nat_cmp};
 ghost use Rattle.std.specs.BTreeMap.{get};
@@ -38,12 +38,11 @@ impl Store {
         copies.get(&snap)
     }
 
-    /// The family at a place, in the order in which they were first touched, from 0.
-    pub fn family_at(&self, at: usize) -> Option<&Family>
-        ensures { option_copied result ≡ slice_get (touched self.now) at }
+    /// The families that were touched, in the order of their first touch.
+    pub fn families(&self) -> &[Family]
+        ensures { result.now ≡ touched self.now }
     {
-        let (family, _) = self.families.get_index(at)?;
-        Some(family)
+        self.families.keys().as_slice()
     }
 
     // The copies of a family, as a map of its own.

@@ -1,0 +1,70 @@
+//! One shard, whose device fails no call.
+ghost use Rattle.std.specs.Prelude.{◌≡◌, ◌≤◌, ◌+◌, [], ◌∷◌, length, OnOk, OnErr, IfOk, if◌then◌else◌};
+ghost use Rattle.pgs_shard.specs.Feeds.{AreNext, fed};
+ghost use Rattle.pgs_shard.specs.Stores.{applied};
+ghost use Rattle.pgs_shard.specs.declared.event.Event.TheVariants as events;
+ghost use Rattle.pgs_shards.specs.Members.{waits, apply_answer};
+ghost use Rattle.pgs_shards.specs.Kept.{IsQuiet};
+
+use pgs_copy::Damage;
+use pgs_medium::{Item, RamMedium};
+use pgs_name::Family;
+use pgs_shard::{Applied, ApplyError, Shard};
+use sqlite_items::Items;
+use std::alloc::{AllocError, Global};
+
+/// A shard of an OSD, which was fed nothing yet.
+pub fn begin(alloc: Global, osd: u32) -> Shard<RamMedium>
+    ensures osd { result.osd ≡ osd }
+    ensures past { result.past ≡ [] }
+    ensures quiet { IsQuiet result }
+{
+    let medium = RamMedium::new(alloc, Items::new(alloc));
+    Shard::new(alloc, medium, osd)
+}
+
+/// Takes items, numbered from one after `from` on.
+pub fn feed(shard: &mut Shard<RamMedium>, from: u64, items: Items<Item>) -> Result<(), AllocError>
+    requires quiet { IsQuiet shard.old }
+    requires next { AreNext from items }
+    requires from { from ≤ length (fed shard.old.past) }
+    ensures osd { shard.new.osd ≡ shard.old.osd }
+    ensures kept { OnOk result (shard.new.past ≡ events.Fed from items ∷ shard.old.past) }
+    ensures err { OnErr result (shard.new.past ≡ shard.old.past) }
+    ensures quiet { IsQuiet shard.new }
+{
+    shard.feed(from, items)
+}
+
+/// Applies the next item, if one waits.
+
+pub fn apply(shard: &mut Shard<RamMedium>) -> Result<Applied, AllocError>
+    requires { IsQuiet shard.old }
+    ensures answer { IfOk result (λ answer. answer ≡ apply_answer shard.old.past) }
+    ensures osd { shard.new.osd ≡ shard.old.osd }
+    ensures kept { OnOk result (shard.new.past ≡ (if waits shard.old.past then events.Applied (applied shard.old.past + 1) ∷ shard.old.past else shard.old.past)) }
+    ensures err { OnErr result (shard.new.past ≡ shard.old.past) }
+    ensures quiet { IsQuiet shard.new }
+{
+    match shard.apply_next() {
+        Ok(answer) => Ok(answer),
+        Err(ApplyError::Memory) => Err(AllocError),
+        Err(ApplyError::DeviceFault { .. }) => unreachable!(),
+    }
+}
+
+/// Does damage to the copy at a snap of a family.
+pub fn damage(
+    shard: &mut Shard<RamMedium>,
+    family: Family,
+    snap: u64,
+    damage: Damage,
+) -> Result<(), AllocError>
+    requires { IsQuiet shard.old }
+    ensures osd { shard.new.osd ≡ shard.old.osd }
+    ensures kept { OnOk result (shard.new.past ≡ events.Damaged family snap damage ∷ shard.old.past) }
+    ensures err { OnErr result (shard.new.past ≡ shard.old.past) }
+    ensures quiet { IsQuiet shard.new }
+{
+    shard.damage(family, snap, damage)
+}
