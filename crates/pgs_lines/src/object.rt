@@ -1,4 +1,7 @@
+ghost use Rattle.std.specs.Prelude.{◌≡◌};
+
 use pgs_bytes::Bytes;
+use std::alloc::AllocError;
 
 /// The words SPACE KEY NAME of a line: a dash stands for an empty space or key.
 #[derive(Drop)]
@@ -9,4 +12,15 @@ pub struct Object {
     pub key: Bytes,
     /// The name, of 1 to 255 bytes.
     pub name: Bytes,
+}
+
+impl Clone for Object {
+    ghost is_clone = { λ a b. b ≡ a };
+
+    fn clone(&self) -> Result<Object, AllocError> {
+        let space = self.space.clone()?;
+        let key = self.key.clone()?;
+        let name = self.name.clone()?;
+        Ok(Object { space, key, name })
+    }
 }

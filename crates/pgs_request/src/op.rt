@@ -1,4 +1,7 @@
+ghost use Rattle.std.specs.Prelude.{◌≡◌};
+
 use crate::payload::Payload;
+use std::alloc::AllocError;
 
 /// What a write does to the head of an object.
 #[derive(Drop)]
@@ -8,4 +11,17 @@ pub enum Op {
         /// The new data.
         payload: Payload,
     },
+}
+
+impl Clone for Op {
+    ghost is_clone = { λ a b. b ≡ a };
+
+    fn clone(&self) -> Result<Op, AllocError> {
+        match self {
+            Op::Full { payload } => {
+                let payload = payload.clone()?;
+                Ok(Op::Full { payload })
+            }
+        }
+    }
 }

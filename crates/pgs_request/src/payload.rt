@@ -57,3 +57,24 @@ fn filled(alloc: Global, count: u32, byte: u8) -> Result<Bytes, AllocError>
     let bytes = Vec::from_elem(alloc, byte, count as usize)?;
     Ok(Bytes::from_vec(bytes))
 }
+
+impl Clone for Payload {
+    ghost is_clone = { λ a b. b ≡ a };
+
+    fn clone(&self) -> Result<Payload, AllocError> {
+        match self {
+            Payload::Text { bytes } => {
+                let bytes = bytes.clone()?;
+                Ok(Payload::Text { bytes })
+            }
+            Payload::Hex { bytes } => {
+                let bytes = bytes.clone()?;
+                Ok(Payload::Hex { bytes })
+            }
+            Payload::Fill { count, byte } => Ok(Payload::Fill {
+                count: *count,
+                byte: *byte,
+            }),
+        }
+    }
+}

@@ -51,9 +51,10 @@ or_right false b e = e
 all_among : (P : ℕ → Type 0) (xs ys : List ℕ) → ((x : ℕ) → list_any (λ y. y == x) xs ≡ true → list_any (λ y. y == x) ys ≡ true)
     → ((x : ℕ) → list_any (λ y. y == x) ys ≡ true → P x) → AllByRecursion P xs
 all_among P [] ys sub each = tt
-all_among P (x ∷ xs) ys sub each =
-    (each x (sub x (let same : (x == x) ≡ true = grind (arith, nat_tests) in ap (λ v. v || list_any (λ y. y == x) xs) same)),
-     all_among P xs ys (λ z there. sub z (or_right (x == z) (list_any (λ y. y == z) xs) there)) each)
+all_among P (x ∷ xs) ys sub each = (
+  each x (sub x (let same : (x == x) ≡ true = grind (arith, nat_tests) in ap (λ v. v || list_any (λ y. y == x) xs) same)),
+  all_among P xs ys (λ z there. sub z (or_right (x == z) (list_any (λ y. y == z) xs) there)) each,
+)
 
 pub all_members : (P : ℕ → Type 0) (xs : List ℕ) → ((x : ℕ) → list_any (λ y. y == x) xs ≡ true → P x) → AllByRecursion P xs
 all_members P xs each = all_among P xs xs (λ x there. there) each
@@ -86,10 +87,10 @@ holds_on a b id version legal grows h =
       stands = stands;
       once = once (ids b.past) id version (distinct b.made b.past legal) stands;
       each_told = subst (λ made. AllByRecursion (λ osd. version.number ≤ told b.past osd) made.members) (sym grows.same)
-        (all_more (λ osd. version.number ≤ told a.past osd) (λ osd. version.number ≤ told b.past osd) a.made.members
+          (all_more (λ osd. version.number ≤ told a.past osd) (λ osd. version.number ≤ told b.past osd) a.made.members
           (λ osd less. let more : told a.past osd ≤ told b.past osd = grows.tells osd in omega (arith, less, more)) h.each_told);
       each_applied = subst (λ made. AllByRecursion (λ osd. version.number ≤ applied_by b osd) made.members) (sym grows.same)
-        (all_more (λ osd. version.number ≤ applied_by a osd) (λ osd. version.number ≤ applied_by b osd) a.made.members
+          (all_more (λ osd. version.number ≤ applied_by a osd) (λ osd. version.number ≤ applied_by b osd) a.made.members
           (λ osd less. let more : applied_by a osd ≤ applied_by b osd = grows.applies osd in omega (arith, less, more)) h.each_applied);
     }
 
@@ -131,11 +132,11 @@ at_least n m e = omega (arith, e)
 pub grows_write : (w : WorldState) (client serial : ℕ) (object : Object) (op : Op) → AreInStep (after_write w client serial object op)
     → Grows w (after_write w client serial object op)
 grows_write w client serial object op h = record {
-      same = refl;
-      kept = submit_keeps w.made w.past (write_of client serial object op) (submit_answer w.made w.past (write_of client serial object op)) h.legal;
-      tells = λ osd. omega arith;
-      applies = λ osd. omega arith;
-    }
+  same = refl;
+  kept = submit_keeps w.made w.past (write_of client serial object op) (submit_answer w.made w.past (write_of client serial object op)) h.legal;
+  tells = λ osd. omega arith;
+  applies = λ osd. omega arith;
+}
 
 -- one more event of the group that is no write
 cond_same : (v : Bool) (n : ℕ) → n ≤ cond v n n
@@ -145,12 +146,12 @@ cond_same false n = omega arith
 collect_ids : (past : List Event) (id : ReqId) (answer : CollectAnswer) → ids (after_collected past id answer) ≡ ids past
 collect_ids past id Unknown = refl
 collect_ids past id (NotYet osd count) = refl
-collect_ids past id (Acked version) = (elim (collected past id) as (λ v. ids (cond v past (Collect id version ∷ past)) ≡ ids past) [ | true ↦ refl | false ↦ refl ])
+collect_ids past id (Acked version) = (elim (collected past id) as (λ v. ids (cond v past (Collect id version ∷ past)) ≡ ids past) [ true ↦ refl | false ↦ refl ])
 
 collect_told : (past : List Event) (id : ReqId) (answer : CollectAnswer) (osd : ℕ) → told (after_collected past id answer) osd ≡ told past osd
 collect_told past id Unknown osd = refl
 collect_told past id (NotYet other count) osd = refl
-collect_told past id (Acked version) osd = (elim (collected past id) as (λ v. told (cond v past (Collect id version ∷ past)) osd ≡ told past osd) [ | true ↦ refl | false ↦ refl ])
+collect_told past id (Acked version) osd = (elim (collected past id) as (λ v. told (cond v past (Collect id version ∷ past)) osd ≡ told past osd) [ true ↦ refl | false ↦ refl ])
 
 pub grows_collect : (w : WorldState) (group client serial : ℕ) → Grows w (after_collecting w group client serial)
 grows_collect w group client serial =
@@ -167,16 +168,16 @@ applied_event : (members : List Member) (osd q : ℕ) (event : ShardEvent) → (
 applied_event [] osd q event more = omega arith
 applied_event (member ∷ members) osd q event more =
     let P : Bool → Type 0 = λ v. (member.osd == osd) ≡ v
-        → applied (past_in (member ∷ members) q) ≤ applied (past_in (cond v (record member { past = event ∷ member.past } ∷ members) (member ∷ with_event osd event members)) q) in
+    → applied (past_in (member ∷ members) q) ≤ applied (past_in (cond v (record member { past = event ∷ member.past } ∷ members) (member ∷ with_event osd event members)) q) in
     (elim (member.osd == osd) as P [
       | true ↦ λ same. (elim (member.osd == q) as (λ v. applied (cond v member.past (past_in members q)) ≤ applied (cond v (event ∷ member.past) (past_in members q))) [
-          | true ↦ more member.past (sym (ap (λ v. cond v member.past (past_in members osd)) same))
-          | false ↦ omega arith
-        ])
+        | true ↦ more member.past (sym (ap (λ v. cond v member.past (past_in members osd)) same))
+        | false ↦ omega arith
+      ])
       | false ↦ λ other. (elim (member.osd == q) as (λ v. applied (cond v member.past (past_in members q)) ≤ applied (cond v member.past (past_in (with_event osd event members) q))) [
-          | true ↦ omega arith
-          | false ↦ applied_event members osd q event (λ past is. more past (is ∙ sym (ap (λ v. cond v member.past (past_in members osd)) other)))
-        ])
+        | true ↦ omega arith
+        | false ↦ applied_event members osd q event (λ past is. more past (is ∙ sym (ap (λ v. cond v member.past (past_in members osd)) other)))
+      ])
     ]) refl
 
 pub grows_pull : (w : WorldState) (group osd : ℕ) → Grows w (after_pulling w group osd)
@@ -184,13 +185,13 @@ grows_pull w group osd =
     let event : Event = Pull osd (pulled w.past osd) (last_number w.past) in
     let done : List Done = (after_pulling w group osd).done in
     (elim (nat_lt (pulled w.past osd) (last_number w.past)) as
-      (λ v. Grows w (record w { past = cond v (event ∷ w.past) w.past; members = cond v (with_event osd (given w osd) w.members) w.members; done = done })) [
+    (λ v. Grows w (record w { past = cond v (event ∷ w.past) w.past; members = cond v (with_event osd (given w osd) w.members) w.members; done = done })) [
       | true ↦ record {
-          same = refl;
-          kept = λ id version e. e;
-          tells = λ q. omega arith;
-          applies = λ q. applied_event w.members osd q (given w osd) (λ past is. omega arith);
-        }
+        same = refl;
+        kept = λ id version e. e;
+        tells = λ q. omega arith;
+        applies = λ q. applied_event w.members osd q (given w osd) (λ past is. omega arith);
+      }
       | false ↦ record { same = refl; kept = λ id version e. e; tells = λ q. omega arith; applies = λ q. omega arith }
     ])
 
@@ -202,14 +203,14 @@ grows_tell w group osd =
     let done : List Done = (after_telling w group osd).done in
     (elim (nat_lt (told w.past osd) (applied_by w osd)) as (λ v. Grows w (record w { past = cond v (Tell osd (applied_by w osd) ∷ w.past) w.past; done = done })) [
       | true ↦ record {
-          same = refl;
-          kept = λ id version e. e;
-          tells = λ q. (elim (osd == q) as (λ v. told w.past q ≤ cond v (max (told w.past q) (applied_by w osd)) (told w.past q)) [
-            | true ↦ max_left (told w.past q) (applied_by w osd)
-            | false ↦ omega arith
-          ]);
-          applies = λ q. omega arith;
-        }
+        same = refl;
+        kept = λ id version e. e;
+        tells = λ q. (elim (osd == q) as (λ v. told w.past q ≤ cond v (max (told w.past q) (applied_by w osd)) (told w.past q)) [
+          | true ↦ max_left (told w.past q) (applied_by w osd)
+          | false ↦ omega arith
+        ]);
+        applies = λ q. omega arith;
+      }
       | false ↦ record { same = refl; kept = λ id version e. e; tells = λ q. omega arith; applies = λ q. omega arith }
     ])
 
@@ -218,23 +219,23 @@ grows_apply w group osd =
     let done : List Done = (after_applying w group osd).done in
     (elim (waits (past_in w.members osd)) as (λ v. Grows w (record w { members = cond v (with_event osd (Applied (applied_by w osd + 1)) w.members) w.members; done = done })) [
       | true ↦ record {
-          same = refl;
-          kept = λ id version e. e;
-          tells = λ q. omega arith;
-          applies = λ q. applied_event w.members osd q (Applied (applied_by w osd + 1))
+        same = refl;
+        kept = λ id version e. e;
+        tells = λ q. omega arith;
+        applies = λ q. applied_event w.members osd q (Applied (applied_by w osd + 1))
             (λ past is. let same : applied past ≡ applied_by w osd = ap applied is in omega (arith, same));
-        }
+      }
       | false ↦ record { same = refl; kept = λ id version e. e; tells = λ q. omega arith; applies = λ q. omega arith }
     ])
 
 pub grows_damage : (w : WorldState) (osd : ℕ) (done : List Done) (family : Family) (snap : ℕ) (damage : CopyDamage)
     → Grows w (record w { members = with_event osd (Damaged family snap damage) w.members; done = done })
 grows_damage w osd done family snap damage = record {
-      same = refl;
-      kept = λ id version e. e;
-      tells = λ q. omega arith;
-      applies = λ q. applied_event w.members osd q (Damaged family snap damage) (λ past is. omega arith);
-    }
+  same = refl;
+  kept = λ id version e. e;
+  tells = λ q. omega arith;
+  applies = λ q. applied_event w.members osd q (Damaged family snap damage) (λ past is. omega arith);
+}
 
 pub grows_done : (w : WorldState) (done : List Done) → Grows w (record w { done = done })
 grows_done w done = record { same = refl; kept = λ id version e. e; tells = λ q. omega arith; applies = λ q. omega arith }
@@ -257,13 +258,13 @@ pub newly_acked : (w : WorldState) (id : ReqId) (version : Version) → AreInSte
 newly_acked w id version h e =
     let found = found_acked w.made w.past (version_in (ids w.past) id) version e in
     let each = all_more (λ osd. nat_lt (told w.past osd) version.number ≡ false) (λ osd. version.number ≤ told w.past osd) w.made.members
-      (λ osd. not_behind (told w.past osd) version.number) (find_none (λ osd. nat_lt (told w.past osd) version.number) w.made.members found.1) in
+    (λ osd. not_behind (told w.past osd) version.number) (find_none (λ osd. nat_lt (told w.past osd) version.number) w.made.members found.1) in
     record {
       stands = found.0;
       once = once (ids w.past) id version (distinct w.made w.past h.legal) found.0;
       each_told = each;
       each_applied = both_all (λ osd. version.number ≤ told w.past osd) (λ osd. told w.past osd ≤ applied_by w osd) (λ osd. version.number ≤ applied_by w osd) w.made.members
-        (λ osd a b. omega (arith, a, b)) each (all_members (λ osd. told w.past osd ≤ applied_by w osd) w.made.members (λ osd member. (h.each osd member).told_applied));
+          (λ osd a b. omega (arith, a, b)) each (all_members (λ osd. told w.past osd ≤ applied_by w osd) w.made.members (λ osd member. (h.each osd member).told_applied));
     }
 
 -- what a collect answers holds after it

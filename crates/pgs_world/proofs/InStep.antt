@@ -149,16 +149,16 @@ one_event : (w : WorldState) (done : List Done) (osd : ℕ) (event : ShardEvent)
     → (is_member w.made osd ≡ true → IsInStep w.past osd (event ∷ past_in w.members osd))
     → AreInStep (record w { members = with_event osd event w.members; done = done })
 one_event w done osd event h here = record {
-      legal = h.legal;
-      named = osds_kept w.members osd event ∙ h.named;
-      each = λ q member. elim (eqb_tells osd q) [
-        | inl is ↦
-            subst (λ o. IsInStep w.past o (past_in (with_event osd event w.members) o)) is.1
-            (subst (IsInStep w.past osd) (sym (past_in_here w.members osd event (has_member w osd h (ap (is_member w.made) is.1 ∙ member))))
-              (here (ap (is_member w.made) is.1 ∙ member)))
-        | inr apart ↦ subst (IsInStep w.past q) (sym (past_in_other w.members osd q event apart.0)) (h.each q member)
-      ];
-    }
+  legal = h.legal;
+  named = osds_kept w.members osd event ∙ h.named;
+  each = λ q member. elim (eqb_tells osd q) [
+    | inl is ↦
+        subst (λ o. IsInStep w.past o (past_in (with_event osd event w.members) o)) is.1
+        (subst (IsInStep w.past osd) (sym (past_in_here w.members osd event (has_member w osd h (ap (is_member w.made) is.1 ∙ member))))
+        (here (ap (is_member w.made) is.1 ∙ member)))
+    | inr apart ↦ subst (IsInStep w.past q) (sym (past_in_other w.members osd q event apart.0)) (h.each q member)
+  ];
+}
 
 pub in_write : (w : WorldState) (client serial : ℕ) (object : Object) (op : Op) → AreInStep w → AreInStep (after_write w client serial object op)
 in_write w client serial object op h =
@@ -171,35 +171,35 @@ in_write w client serial object op h =
 
 pub in_collect : (w : WorldState) (group client serial : ℕ) → AreInStep w → AreInStep (after_collecting w group client serial)
 in_collect w group client serial h = record {
-      legal = legal_collect w.made w.past (id_of client serial) h.legal;
-      named = h.named;
-      each = λ osd member. collected_one w.past (id_of client serial) (collect_answer w.made w.past (id_of client serial)) osd (past_in w.members osd) (h.each osd member);
-    }
+  legal = legal_collect w.made w.past (id_of client serial) h.legal;
+  named = h.named;
+  each = λ osd member. collected_one w.past (id_of client serial) (collect_answer w.made w.past (id_of client serial)) osd (past_in w.members osd) (h.each osd member);
+}
 
 -- a pull that gives items
 fed_world : (w : WorldState) (done : List Done) (osd : ℕ) → AreInStep w → IsLegal w.made (Pull osd (pulled w.past osd) (last_number w.past) ∷ w.past)
     → AreInStep (record w { past = Pull osd (pulled w.past osd) (last_number w.past) ∷ w.past; members = with_event osd (given w osd) w.members; done = done })
 fed_world w done osd h legal = record {
-      legal = legal;
-      named = osds_kept w.members osd (given w osd) ∙ h.named;
-      each = λ q member. elim (eqb_tells osd q) [
-        | inl is ↦
-            subst (λ o. IsInStep (Pull osd (pulled w.past osd) (last_number w.past) ∷ w.past) o (past_in (with_event osd (given w osd) w.members) o)) is.1
-            (subst (IsInStep (Pull osd (pulled w.past osd) (last_number w.past) ∷ w.past) osd)
-              (sym (past_in_here w.members osd (given w osd) (has_member w osd h (ap (is_member w.made) is.1 ∙ member))))
-              (pulled_fed w.made w.past osd (past_in w.members osd) h.legal (h.each osd (ap (is_member w.made) is.1 ∙ member))))
-        | inr apart ↦
-            subst (IsInStep (Pull osd (pulled w.past osd) (last_number w.past) ∷ w.past) q) (sym (past_in_other w.members osd q (given w osd) apart.0))
-            (pulled_other w.past osd (pulled w.past osd) (last_number w.past) q (past_in w.members q) apart.0 (h.each q member))
-      ];
-    }
+  legal = legal;
+  named = osds_kept w.members osd (given w osd) ∙ h.named;
+  each = λ q member. elim (eqb_tells osd q) [
+    | inl is ↦
+        subst (λ o. IsInStep (Pull osd (pulled w.past osd) (last_number w.past) ∷ w.past) o (past_in (with_event osd (given w osd) w.members) o)) is.1
+        (subst (IsInStep (Pull osd (pulled w.past osd) (last_number w.past) ∷ w.past) osd)
+        (sym (past_in_here w.members osd (given w osd) (has_member w osd h (ap (is_member w.made) is.1 ∙ member))))
+        (pulled_fed w.made w.past osd (past_in w.members osd) h.legal (h.each osd (ap (is_member w.made) is.1 ∙ member))))
+    | inr apart ↦
+        subst (IsInStep (Pull osd (pulled w.past osd) (last_number w.past) ∷ w.past) q) (sym (past_in_other w.members osd q (given w osd) apart.0))
+        (pulled_other w.past osd (pulled w.past osd) (last_number w.past) q (past_in w.members q) apart.0 (h.each q member))
+  ];
+}
 
 pub in_pull : (w : WorldState) (group osd : ℕ) → AreInStep w → AreInStep (after_pulling w group osd)
 in_pull w group osd h =
     let event : Event = Pull osd (pulled w.past osd) (last_number w.past) in
     let done : List Done = (after_pulling w group osd).done in
     let P : Bool → Type 0 = λ v. IsLegal w.made (cond v (event ∷ w.past) w.past)
-        → AreInStep (record w { past = cond v (event ∷ w.past) w.past; members = cond v (with_event osd (given w osd) w.members) w.members; done = done }) in
+    → AreInStep (record w { past = cond v (event ∷ w.past) w.past; members = cond v (with_event osd (given w osd) w.members) w.members; done = done }) in
     (elim (nat_lt (pulled w.past osd) (last_number w.past)) as P [
       | true ↦ λ legal. fed_world w done osd h legal
       | false ↦ λ legal. record { legal = h.legal; named = h.named; each = h.each }
@@ -209,14 +209,14 @@ pub in_tell : (w : WorldState) (group osd : ℕ) → AreInStep w → AreInStep (
 in_tell w group osd h =
     let done : List Done = (after_telling w group osd).done in
     let P : Bool → Type 0 = λ v. IsLegal w.made (cond v (Tell osd (applied_by w osd) ∷ w.past) w.past)
-        → AreInStep (record w { past = cond v (Tell osd (applied_by w osd) ∷ w.past) w.past; done = done }) in
+    → AreInStep (record w { past = cond v (Tell osd (applied_by w osd) ∷ w.past) w.past; done = done }) in
     (elim (nat_lt (told w.past osd) (applied_by w osd)) as P [
       | true ↦ λ legal. record {
-          legal = legal;
-          named = h.named;
-          each = λ q member. told_one w.past osd (applied_by w osd) q (past_in w.members q)
+        legal = legal;
+        named = h.named;
+        each = λ q member. told_one w.past osd (applied_by w osd) q (past_in w.members q)
             (λ same. let is : osd ≡ q = grind (arith, nat_tests, same) in subst (λ o. applied_by w osd ≤ applied (past_in w.members o)) is (omega arith)) (h.each q member);
-        }
+      }
       | false ↦ λ legal. record { legal = h.legal; named = h.named; each = h.each }
     ]) (legal_tell w.made w.past osd (applied_by w osd) h.legal)
 
@@ -224,7 +224,7 @@ pub in_apply : (w : WorldState) (group osd : ℕ) → AreInStep w → AreInStep 
 in_apply w group osd h =
     let done : List Done = (after_applying w group osd).done in
     let P : Bool → Type 0 = λ v. waits (past_in w.members osd) ≡ v
-        → AreInStep (record w { members = cond v (with_event osd (Applied (applied_by w osd + 1)) w.members) w.members; done = done }) in
+    → AreInStep (record w { members = cond v (with_event osd (Applied (applied_by w osd + 1)) w.members) w.members; done = done }) in
     (elim (waits (past_in w.members osd)) as P [
       | true ↦ λ waiting. one_event w done osd (Applied (applied_by w osd + 1)) h
           (λ member. applied_one w.made w.past osd (past_in w.members osd) h.legal (h.each osd member) waiting)
@@ -243,8 +243,8 @@ in_done w done h = record { legal = h.legal; named = h.named; each = h.each }
 
 pub in_opening : (made : Made) → AreInStep (opening made)
 in_opening made = record {
-      legal = tt;
-      named = osds_beginning made.members;
-      each = λ osd member. subst (IsInStep [] osd) (sym (past_beginning made.members osd))
-        (record { shard_legal = tt; items = refl; told_applied = omega arith; applied_pulled = omega arith; pulled_log = omega arith });
-    }
+  legal = tt;
+  named = osds_beginning made.members;
+  each = λ osd member. subst (IsInStep [] osd) (sym (past_beginning made.members osd))
+      (record { shard_legal = tt; items = refl; told_applied = omega arith; applied_pulled = omega arith; pulled_log = omega arith });
+}

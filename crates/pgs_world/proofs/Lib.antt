@@ -3,3 +3,4 @@ pub mod Items
 pub mod InStep
 pub mod Acks
 pub mod Sound
+pub mod Findings

@@ -24,9 +24,9 @@ use Rattle.pgs_world.proofs.Acks.{Grows, acks_grow, grows_write, grows_collect, 
 -- one thing more was done
 kept_sound : (a b : WorldState) (done : Done) → IsSound a → AreInStep b → Grows a b → b.done ≡ done ∷ a.done → StillHolds b done → IsSound b
 kept_sound a b done sound in_step grows is holds = record {
-      in_step = in_step;
-      acknowledged = subst (AllByRecursion (StillHolds b)) (sym is) (holds, acks_grow a b in_step grows sound.acknowledged);
-    }
+  in_step = in_step;
+  acknowledged = subst (AllByRecursion (StillHolds b)) (sym is) (holds, acks_grow a b in_step grows sound.acknowledged);
+}
 
 sound_applying : (w : WorldState) (group osd : ℕ) → IsSound w → IsSound (after_applying w group osd)
 sound_applying w group osd s = kept_sound w (after_applying w group osd) _ s (in_apply w group osd s.in_step) (grows_apply w group osd) refl tt
@@ -44,13 +44,13 @@ sound_basic w (basics.Write client serial object op) s =
 sound_basic w (basics.Collect group client serial) s =
     let after = in_collect w group client serial s.in_step in
     kept_sound w (after_collecting w group client serial) _ s after (grows_collect w group client serial) refl
-      (collect_holds w group client serial (collect_answer w.made w.past (id_of client serial)) s.in_step after refl)
+    (collect_holds w group client serial (collect_answer w.made w.past (id_of client serial)) s.in_step after refl)
 sound_basic w (basics.Pull group osd) s = sound_pulling w group osd s
 sound_basic w (basics.Apply group osd) s = sound_applying w group osd s
 sound_basic w (basics.Tell group osd) s = sound_telling w group osd s
 sound_basic w (basics.Damage group osd object snap damage) s =
     kept_sound w (after_damaging w group osd object snap damage) _ s (in_damage w group osd object snap damage s.in_step)
-      (grows_damage w osd _ (family_of object) (snap_of snap) (damage_of damage)) refl tt
+    (grows_damage w osd _ (family_of object) (snap_of snap) (damage_of damage)) refl tt
 
 sound_times : (n : ℕ) (w : WorldState) (group osd : ℕ) → IsSound w → IsSound (applied_times n w group osd)
 sound_times zero w group osd s = s

@@ -1,10 +1,12 @@
 -- Which objects have copies that disagree with what was written.
-use Rattle.std.specs.Prelude.{ℕ, ◌==◌, ◌&&◌, Bool, false, not, Option, Some, None, option_map, count_by}
+use Rattle.std.specs.Prelude.{ℕ, ◌==◌, ◌&&◌, Bool, false, not, List, Option, Some, None, option_map, count_by}
 use Rattle.std.specs.List.{list_any}
 use Rattle.pgs_copy.specs.declared.obj_copy.ObjCopy.{ObjCopy}
 use Rattle.pgs_name.specs.Digest.{crc}
 use Rattle.pgs_name.specs.declared.family.Family.{Family}
 use Rattle.pgs_name.specs.declared.object_id.TheConstants.{HEAD}
+use Rattle.pgs_store.specs.Stores.{Stored}
+use Rattle.pgs_medium.specs.declared.item.Item.{Item}
 use Rattle.pgs_history.specs.Log.{clean, families, log}
 use Rattle.pgs_shard.specs.Stores.{stored_by}
 use Rattle.pgs_shards.specs.Members.{Member}
@@ -21,13 +23,16 @@ same_digest (Some a) None = false
 same_digest (Some a) (Some b) = a == b
 
 -- a member's head has the digest of what the accepted writes alone make
-abbrev pub agrees : WorldState → Family → Member → Bool
-agrees w family member = same_digest (digest_of (clean (log w.past) family HEAD)) (digest_of (stored_by member.past family HEAD))
+abbrev pub agrees : Stored → Family → Member → Bool
+agrees clean family member = same_digest (digest_of (clean family HEAD)) (digest_of (stored_by member.past family HEAD))
 
 -- An object has a finding exactly where one member's copy has the digest of what was written, and another's hasn't.
-abbrev pub has_finding : WorldState → Family → Bool
-has_finding w family = list_any (agrees w family) w.members && list_any (λ m. not (agrees w family m)) w.members
+abbrev pub has_finding_in : Stored → List Member → Family → Bool
+has_finding_in clean members family = list_any (agrees clean family) members && list_any (λ m. not (agrees clean family m)) members
 
 -- how many of the written objects have one
+abbrev pub findings_in : List Item → List Member → ℕ
+findings_in items members = count_by (has_finding_in (clean items) members) (families items)
+
 abbrev pub findings : WorldState → ℕ
-findings w = count_by (has_finding w) (families (log w.past))
+findings w = findings_in (log w.past) w.members
