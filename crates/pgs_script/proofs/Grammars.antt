@@ -1,5 +1,5 @@
 -- The laws of the grammar of scripts.
-use Rattle.std.proofs.Common.{◌≡◌, ℕ, List, refl}
+use Rattle.std.proofs.Common.{◌≡◌, ℕ, List}
 use Rattle.std.specs.Prelude.{Result, Err}
 use Rattle.pgs_words.specs.Forms.{parts_of}
 use Rattle.pgs_texts.specs.Text.{IsVerdict}
@@ -10,10 +10,11 @@ use Rattle.pgs_texts.specs.declared.script_error.ScriptError.TheVariants.{Memory
 use Rattle.pgs_lines.specs.Lines.{in_line}
 use Rattle.pgs_lines.proofs.LineLaws.{line_laws}
 use Rattle.pgs_script.specs.Script.{script_grammar}
-use Rattle.pgs_script.specs.declared.script.StepScript.{StepScript}
+use Rattle.pgs_order.proofs.Stays.{not_passed}
+use Rattle.pgs_order.specs.declared.step_script.StepScript.{StepScript}
 
 pub script_laws : GrammarLaws in_line script_grammar
-script_laws = record { lines = line_laws; not_passed = λ l e. refl }
+script_laws = record { lines = line_laws; not_passed = not_passed }
 
 pub script_verdict : (text : List ℕ) (r : Result StepScript ScriptError) → Judges r (verdict script_grammar 1 script_grammar.start (parts_of 10 text)) → IsVerdict script_grammar text r
 script_verdict = judged_verdict in_line script_grammar script_laws

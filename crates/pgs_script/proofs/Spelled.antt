@@ -6,9 +6,9 @@ use Rattle.pgs_lines.proofs.LineLaws.{line_laws}
 use Rattle.pgs_lines.specs.declared.step.Step.{Step}
 use Rattle.pgs_lines.specs.declared.line.Line.{Line}
 use Rattle.pgs_lines.specs.declared.line.Line.TheVariants as lines
-use Rattle.pgs_script.specs.Order.{after}
+use Rattle.pgs_order.specs.Order.{after}
 use Rattle.pgs_script.specs.Script.{AreSpelled}
-use Rattle.pgs_script.specs.declared.script.StepScript.{StepScript}
+use Rattle.pgs_order.specs.declared.step_script.StepScript.{StepScript}
 
 pub fits_of_read : (text : List ℕ) (l : Line) → line.read text ≡ Some l → (line_said l).fits ≡ true
 fits_of_read text l e = (line_laws.found text l e).1

@@ -1,4 +1,3 @@
--- Scripts and their order.
+-- The grammar of scripts.
 pub use Rattle.pgs_texts.specs.Text
-pub mod Order
 pub mod Script

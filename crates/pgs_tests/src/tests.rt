@@ -4,4 +4,3 @@ mod digests;
 mod ends;
 mod names;
 mod runs;
-mod words;

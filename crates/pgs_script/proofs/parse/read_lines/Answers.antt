@@ -22,6 +22,7 @@ loop-line-preserved c = record {
       c.loop-line.invariant.verdict c.in-Some.ensures c.in-Ok.ensures.verdict;
   count = let parts = ap length c.in-Some.ensures in omega (arith, c.loop-line.invariant.count);
   spelled = c.in-Ok.ensures.spelled c.loop-line.invariant.spelled;
+  ordered = c.in-Ok.ensures.ordered c.loop-line.invariant.ordered;
 }
 
 pub returns-clause-verdict : goal.returns-clause-verdict

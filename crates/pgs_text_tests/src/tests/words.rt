@@ -1,8 +1,7 @@
 use pgs_bytes::{Bytes, is_plain, is_plain_byte};
-use pgs_lines::{Line, line_in};
 use pgs_words::{
-    after, cut, dashed, ended, is_word, name, next, number, number_in, part, positive,
-    positive_byte, word,
+    after, cut, dashed, ended, hex_byte_in, hex_digit, hex_in, is_word, name, next, number,
+    number_in, part, parts_ended, positive, positive_byte, word,
 };
 use std::cmp::Ordering;
 use std::test::Fail;
@@ -64,36 +63,17 @@ fn bytes_are_compared_as_texts(rt: HostRuntime) -> Result<(), Fail> {
 }
 
 #[test]
-fn lines(rt: HostRuntime) -> Result<(), Fail> {
-    let good = [
-        b"pool 0".as_slice(),
-        b"osd 63 8".as_slice(),
-        b"group 7 1 5 6 7".as_slice(),
-        b"write 1 2 s k a - full text:".as_slice(),
-        b"settle 0".as_slice(),
-        b"damage 0 2 - - a head flip 4294967295 255".as_slice(),
-        b"sweep 0 deep".as_slice(),
-        b"end".as_slice(),
-    ];
-    for line in good {
-        assert!(rt; line_in(rt.alloc(), line).is_ok());
+fn digits(rt: HostRuntime) -> Result<(), Fail> {
+    let bytes = hex_in(rt.alloc(), b"00ff1a")?;
+    assert_eq!(rt; bytes.as_slice(), [0, 255, 26].as_slice());
+    for text in [b"0".as_slice(), b"0F".as_slice(), b"0g".as_slice()] {
+        assert!(rt; hex_in(rt.alloc(), text).is_err());
     }
-    let bad = [
-        b"".as_slice(),
-        b"end ".as_slice(),
-        b"osd 0 0".as_slice(),
-        b"group 0 1".as_slice(),
-        b"write 1 2 - - a - full hex:0".as_slice(),
-        b"damage 0 2 - - a head flip 0 256".as_slice(),
-        b"damage 0 2 - - a head flip 0 0".as_slice(),
-        b"sweep 0  deep".as_slice(),
-    ];
-    for line in bad {
-        assert!(rt; line_in(rt.alloc(), line).is_err());
-    }
-    let Line::Pool { bits } = line_in(rt.alloc(), b"pool 3")? else {
-        return Ok(assert!(rt; false, "a pool"));
-    };
-    assert_eq!(rt; bits, 3);
+    assert_eq!(rt; hex_byte_in(b"7e")?, 126);
+    assert_eq!(rt; (hex_digit(9), hex_digit(10)), (b'9', b'a'));
+    let (left, rest) = part(b"a:", b':');
+    assert_eq!(rt; left, b"a".as_slice());
+    let (_, rest) = next(rest, b':')?;
+    parts_ended(rest, b':')?;
     Ok(())
 }

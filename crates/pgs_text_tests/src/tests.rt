@@ -1,0 +1,5 @@
+//! Each file tests one topic.
+mod lines;
+mod printed;
+mod scripts;
+mod words;

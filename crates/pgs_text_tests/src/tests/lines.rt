@@ -1,0 +1,57 @@
+use pgs_lines::{Line, line_in};
+use std::test::Fail;
+
+#[test]
+fn lines(rt: HostRuntime) -> Result<(), Fail> {
+    let good = [
+        b"pool 0".as_slice(),
+        b"osd 63 8".as_slice(),
+        b"group 7 1 5 6 7".as_slice(),
+        b"write 1 2 s k a - full text:".as_slice(),
+        b"settle 0".as_slice(),
+        b"damage 0 2 - - a head flip 4294967295 255".as_slice(),
+        b"write 1 2 - - a - full hex:".as_slice(),
+        b"write 1 2 - - a - full hex:00ff".as_slice(),
+        b"write 1 2 - - a - full fill:4294967295:0a".as_slice(),
+        b"write 1 2 - - : - full text:::".as_slice(),
+        b"collect 0 1 2".as_slice(),
+        b"pull 0 1".as_slice(),
+        b"apply 0 1".as_slice(),
+        b"tell 0 1".as_slice(),
+        b"sweep 0 deep".as_slice(),
+        b"end".as_slice(),
+    ];
+    for line in good {
+        assert!(rt; line_in(rt.alloc(), line).is_ok());
+    }
+    let bad = [
+        b"".as_slice(),
+        b"end ".as_slice(),
+        b"osd 0 0".as_slice(),
+        b"group 0 1".as_slice(),
+        b"write 1 2 - - a - full hex:0".as_slice(),
+        b"write 1 2 - - a - full hex:0A".as_slice(),
+        b"write 1 2 - - a - full fill:01:00".as_slice(),
+        b"write 1 2 - - a - full fill:4294967296:00".as_slice(),
+        b"write 1 2 - - a - full fill:1:0".as_slice(),
+        b"write 1 2 - - a - full fill:1:00:".as_slice(),
+        b"write 1 2 - - a - full fill:1".as_slice(),
+        b"write 1 2 - - a - full bytes:a".as_slice(),
+        b"write 1 2 - - a 0 full text:".as_slice(),
+        b"pull 0".as_slice(),
+        b"tell 0 1 2".as_slice(),
+        b"collect 0 1".as_slice(),
+        b"sweep 0 repair".as_slice(),
+        b"damage 0 2 - - a head flip 0 256".as_slice(),
+        b"damage 0 2 - - a head flip 0 0".as_slice(),
+        b"sweep 0  deep".as_slice(),
+    ];
+    for line in bad {
+        assert!(rt; line_in(rt.alloc(), line).is_err());
+    }
+    let Line::Pool { bits } = line_in(rt.alloc(), b"pool 3")? else {
+        return Ok(assert!(rt; false, "a pool"));
+    };
+    assert_eq!(rt; bits, 3);
+    Ok(())
+}

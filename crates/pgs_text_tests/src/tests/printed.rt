@@ -1,0 +1,206 @@
+use pgs_bytes::Bytes;
+use pgs_lines::{ApplyAnswer, Damage, Done, Object, Snap, print};
+use pgs_request::{CollectAnswer, Declined, Op, Payload, Refusal, Version, WriteAnswer};
+use std::alloc::{AllocError, Global};
+use std::test::Fail;
+
+const FIRST: Version = Version {
+    epoch: 4,
+    number: 1,
+};
+
+// Whether this is the line of what was done.
+fn says(alloc: Global, done: Done, wanted: &[u8]) -> Result<bool, AllocError> {
+    let mut out = Vec::new(alloc);
+    out.extend_from_slice(b"before\n")?;
+    print(alloc, &done, &mut out)?;
+    let mut whole = Vec::new(alloc);
+    whole.extend_from_slice(b"before\n")?;
+    whole.extend_from_slice(wanted)?;
+    whole.push(b'\n')?;
+    Ok(out.as_slice() == whole.as_slice())
+}
+
+fn object(alloc: Global, name: &[u8]) -> Result<Object, AllocError> {
+    Ok(Object {
+        space: Bytes::new(alloc),
+        key: Bytes::new(alloc),
+        name: Bytes::from_slice(alloc, name)?,
+    })
+}
+
+fn write(alloc: Global, payload: Payload, answer: WriteAnswer) -> Result<Done, AllocError> {
+    Ok(Done::Write {
+        client: 7,
+        serial: 2,
+        object: object(alloc, b"a")?,
+        op: Op::Full { payload },
+        answer,
+    })
+}
+
+fn refused(refusal: Refusal) -> WriteAnswer {
+    WriteAnswer::Declined {
+        declined: Declined::Refused { refusal },
+    }
+}
+
+fn text(alloc: Global) -> Result<Payload, AllocError> {
+    Ok(Payload::Text {
+        bytes: Bytes::from_slice(alloc, b"x:y")?,
+    })
+}
+
+#[test]
+fn writes(rt: HostRuntime) -> Result<(), Fail> {
+    let alloc = rt.alloc();
+    let done = write(
+        alloc,
+        text(alloc)?,
+        WriteAnswer::Accepted { version: FIRST },
+    )?;
+    assert!(rt;
+        says(
+            alloc,
+            done,
+            b"write 7 2 - - a - full text:x:y : accepted 4'1"
+        )?
+    );
+    let again = WriteAnswer::Declined {
+        declined: Declined::Repeat { version: FIRST },
+    };
+    let done = write(alloc, text(alloc)?, again)?;
+    assert!(rt; says(alloc, done, b"write 7 2 - - a - full text:x:y : repeat 4'1")?);
+    let fill = Payload::Fill {
+        count: 4_294_967_295,
+        byte: 10,
+    };
+    let much = refused(Refusal::ObjectTooLarge {
+        size: 4_294_967_295,
+    });
+    let done = write(alloc, fill, much)?;
+    assert!(rt;
+        says(
+            alloc,
+            done,
+            b"write 7 2 - - a - full fill:4294967295:0a : object-too-large 4294967295"
+        )?
+    );
+    let hex = Payload::Hex {
+        bytes: Bytes::from_slice(alloc, [0, 255].as_slice())?,
+    };
+    let done = write(
+        alloc,
+        hex,
+        refused(Refusal::StoreFull { bytes: 33_555_158 }),
+    )?;
+    assert!(rt;
+        says(
+            alloc,
+            done,
+            b"write 7 2 - - a - full hex:00ff : store-full 33555158"
+        )?
+    );
+    let done = write(alloc, text(alloc)?, refused(Refusal::LogFull { bytes: 9 }))?;
+    assert!(rt; says(alloc, done, b"write 7 2 - - a - full text:x:y : log-full 9")?);
+    Ok(())
+}
+
+#[test]
+fn collects(rt: HostRuntime) -> Result<(), Fail> {
+    let alloc = rt.alloc();
+    let rows = [
+        (
+            CollectAnswer::Acked { version: FIRST },
+            b"collect 0 7 2 : acked 4'1".as_slice(),
+        ),
+        (
+            CollectAnswer::NotYet { osd: 3, told: 0 },
+            b"collect 0 7 2 : not-yet 3 0".as_slice(),
+        ),
+        (
+            CollectAnswer::Unknown,
+            b"collect 0 7 2 : unknown".as_slice(),
+        ),
+    ];
+    for (answer, wanted) in rows {
+        let done = Done::Collect {
+            group: 0,
+            client: 7,
+            serial: 2,
+            answer,
+        };
+        assert!(rt; says(alloc, done, wanted)?);
+    }
+    Ok(())
+}
+
+#[test]
+fn applies(rt: HostRuntime) -> Result<(), Fail> {
+    let alloc = rt.alloc();
+    let rows = [
+        (
+            ApplyAnswer::Applied {
+                number: 18_446_744_073_709_551_615,
+            },
+            b"apply 0 5 : applied 18446744073709551615".as_slice(),
+        ),
+        (
+            ApplyAnswer::NotYet { applied: 3 },
+            b"apply 0 5 : not-yet 3".as_slice(),
+        ),
+        (
+            ApplyAnswer::DeviceFault { count: 1 },
+            b"apply 0 5 : device-fault 1".as_slice(),
+        ),
+    ];
+    for (answer, wanted) in rows {
+        let done = Done::Apply {
+            group: 0,
+            osd: 5,
+            answer,
+        };
+        assert!(rt; says(alloc, done, wanted)?);
+    }
+    Ok(())
+}
+
+#[test]
+fn others(rt: HostRuntime) -> Result<(), Fail> {
+    let alloc = rt.alloc();
+    let done = Done::Pull {
+        group: 0,
+        osd: 5,
+        from: 1,
+        to: 3,
+    };
+    assert!(rt; says(alloc, done, b"pull 0 5 : pulled 1 3")?);
+    let done = Done::Tell {
+        group: 0,
+        osd: 5,
+        applied: 3,
+    };
+    assert!(rt; says(alloc, done, b"tell 0 5 : told 3")?);
+    let done = Done::Damage {
+        group: 0,
+        osd: 5,
+        object: object(alloc, b":")?,
+        snap: Snap::Head,
+        damage: Damage::Flip { at: 9, xor: 255 },
+    };
+    assert!(rt; says(alloc, done, b"damage 0 5 - - : head flip 9 255 : damaged")?);
+    let done = Done::Close {
+        group: 0,
+        chunk: 2,
+        findings: 1,
+        snaps: 0,
+    };
+    assert!(rt;
+        says(
+            alloc,
+            done,
+            b"close 0 : closed 2 findings 1 snaps 0 completes"
+        )?
+    );
+    Ok(())
+}

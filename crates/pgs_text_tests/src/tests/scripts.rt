@@ -1,0 +1,136 @@
+use pgs_lines::Line;
+use pgs_order::{after, allows, nothing_said, passed, passes};
+use pgs_script::parse_steps;
+use pgs_texts::ScriptError;
+use std::alloc::{AllocError, Global};
+use std::test::Fail;
+
+// How many steps a text has, or why it is refused.
+fn said(alloc: Global, text: &[u8]) -> Result<String, AllocError> {
+    if text.len() > 16_777_216 {
+        return Ok(String::new(alloc));
+    }
+    match parse_steps(alloc, text) {
+        Ok(script) => format!(in alloc; "Steps {}", script.steps.len()),
+        Err(ScriptError::BadLine { line }) => format!(in alloc; "BadLine {line}"),
+        Err(ScriptError::Limit { line }) => format!(in alloc; "Limit {line}"),
+        Err(ScriptError::Memory) => Err(AllocError),
+    }
+}
+
+#[test]
+fn order(rt: HostRuntime) -> Result<(), Fail> {
+    let script = nothing_said(rt.alloc());
+    let line = Line::Pool { bits: 0 };
+    assert!(rt; allows(&script, &line) && !passes(&script, &line));
+    let script = after(script, line)?;
+    assert!(rt; script.declared.bits.is_some());
+    assert!(rt; passed(b"") && passed(b"# \xff") && !passed(b" "));
+    Ok(())
+}
+
+#[test]
+fn declarations(rt: HostRuntime) -> Result<(), Fail> {
+    let rows = [
+        (b"end\n".as_slice(), "Steps 0"),
+        (b"# \xff\n\nend\n".as_slice(), "Steps 0"),
+        (
+            b"pool 0\nosd 5 8\n\nosd 63 1\n# x\ngroup 0 4 63 5\nend\n".as_slice(),
+            "Steps 0",
+        ),
+        (b"".as_slice(), "BadLine 1"),
+        (b"# x".as_slice(), "BadLine 1"),
+        (b" \nend\n".as_slice(), "BadLine 1"),
+        (b"end\n\n".as_slice(), "BadLine 2"),
+        (b"end\n# x\n".as_slice(), "BadLine 2"),
+        (b"pool 0\nend\n".as_slice(), "BadLine 2"),
+        (b"pool 1\n".as_slice(), "BadLine 1"),
+        (b"pool 0\npool 0\n".as_slice(), "BadLine 2"),
+        (b"\nosd 0 1\n".as_slice(), "BadLine 2"),
+        (b"pool 0\nosd 0 1\nosd 0 1\n".as_slice(), "BadLine 3"),
+        (b"pool 0\nosd 64 1\n".as_slice(), "Limit 2"),
+        (b"pool 0\nosd 0 9\n".as_slice(), "Limit 2"),
+        (b"pool 0\nosd 0 9 x\n".as_slice(), "BadLine 2"),
+        (b"pool 0\nosd 0 1\nosd 0 9\n".as_slice(), "BadLine 3"),
+        (b"pool 0\nosd 0 1\ngroup 0 1 0 0\n".as_slice(), "BadLine 3"),
+        (b"pool 0\nosd 0 1\ngroup 0 1 1\n".as_slice(), "BadLine 3"),
+        (b"pool 0\nosd 0 1\ngroup 1 1 0\n".as_slice(), "BadLine 3"),
+        (b"pool 0\nosd 0 1\ngroup 0 0 0\n".as_slice(), "BadLine 3"),
+        (b"pool 0\nosd 0 1\nsettle 0\n".as_slice(), "BadLine 3"),
+        (b"settle 0\n".as_slice(), "BadLine 1"),
+    ];
+    for (text, wanted) in rows {
+        let answer = said(rt.alloc(), text)?;
+        assert_eq!(rt; answer.as_str(), wanted);
+    }
+    Ok(())
+}
+
+// A script with one group of the OSDs 0 and 2, and what follows.
+fn followed(alloc: Global, rest: &[u8]) -> Result<String, AllocError> {
+    let mut text = Vec::new(alloc);
+    text.extend_from_slice(b"pool 0\nosd 0 1\nosd 1 1\nosd 2 1\ngroup 0 4 2 0\n")?;
+    text.extend_from_slice(rest)?;
+    said(alloc, text.as_slice())
+}
+
+#[test]
+fn steps(rt: HostRuntime) -> Result<(), Fail> {
+    let rows = [
+        (
+            b"write 1 1 - - a - full fill:9:00\ncollect 0 1 1\npull 0 2\napply 0 2\ntell 0 2\nend\n".as_slice(),
+            "Steps 5",
+        ),
+        (
+            b"damage 0 0 - - a head flip 0 1\n#\nsettle 0\nsweep 0 deep\nsweep 0 deep\nend\n".as_slice(),
+            "Steps 4",
+        ),
+        (b"settle 0\n".as_slice(), "BadLine 7"),
+        (b"settle 0\nend".as_slice(), "BadLine 7"),
+        (b"osd 3 1\n".as_slice(), "BadLine 6"),
+        (b"group 0 4 0\n".as_slice(), "BadLine 6"),
+        (b"pool 0\n".as_slice(), "BadLine 6"),
+        (b"settle 1\n".as_slice(), "BadLine 6"),
+        (b"pull 0 1\n".as_slice(), "BadLine 6"),
+        (b"apply 0 3\n".as_slice(), "BadLine 6"),
+        (b"tell 1 0\n".as_slice(), "BadLine 6"),
+        (b"collect 1 1 1\n".as_slice(), "BadLine 6"),
+        (b"sweep 0 repair\n".as_slice(), "BadLine 6"),
+        (b"write 1 1 s - a - full text:\n".as_slice(), "BadLine 6"),
+        (b"damage 0 0 - k a head flip 0 1\n".as_slice(), "BadLine 6"),
+        (b"damage 0 1 - - a head flip 0 1\n".as_slice(), "BadLine 6"),
+    ];
+    for (rest, wanted) in rows {
+        let answer = followed(rt.alloc(), rest)?;
+        assert_eq!(rt; answer.as_str(), wanted);
+    }
+    Ok(())
+}
+
+// A pool with so many OSDs, and what follows.
+fn with_osds(alloc: Global, count: u32, rest: &[u8]) -> Result<String, AllocError> {
+    let mut text = Vec::new(alloc);
+    text.extend_from_slice(b"pool 0\n")?;
+    for osd in 0..count {
+        let line = format!(in alloc; "osd {osd} 1\n")?;
+        text.extend_from_slice(line.as_bytes())?;
+    }
+    text.extend_from_slice(rest)?;
+    said(alloc, text.as_slice())
+}
+
+#[test]
+fn limits(rt: HostRuntime) -> Result<(), Fail> {
+    let alloc = rt.alloc();
+    let nine = with_osds(alloc, 16, b"group 0 1 0 1 2 3 4 5 6 7 8\n")?;
+    assert_eq!(rt; nine.as_str(), "Limit 18");
+    let eight = with_osds(alloc, 16, b"group 0 1 0 1 2 3 4 5 6 15\nend\n")?;
+    assert_eq!(rt; eight.as_str(), "Steps 0");
+    let twice = with_osds(alloc, 16, b"group 0 1 0 1 2 3 4 5 6 7 7\n")?;
+    assert_eq!(rt; twice.as_str(), "BadLine 18");
+    let more = with_osds(alloc, 17, b"")?;
+    assert_eq!(rt; more.as_str(), "Limit 18");
+    let again = with_osds(alloc, 16, b"osd 15 1\n")?;
+    assert_eq!(rt; again.as_str(), "BadLine 18");
+    Ok(())
+}
