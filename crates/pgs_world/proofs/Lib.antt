@@ -4,3 +4,5 @@ pub mod InStep
 pub mod Acks
 pub mod Sound
 pub mod Findings
+pub mod Pulls
+pub mod Settles

@@ -56,7 +56,7 @@ sound_times : (n : ℕ) (w : WorldState) (group osd : ℕ) → IsSound w → IsS
 sound_times zero w group osd s = s
 sound_times (suc n) w group osd s = sound_times n (after_applying w group osd) group osd (sound_applying w group osd s)
 
-sound_member : (w : WorldState) (group osd : ℕ) → IsSound w → IsSound (member_settled w group osd)
+pub sound_member : (w : WorldState) (group osd : ℕ) → IsSound w → IsSound (member_settled w group osd)
 sound_member w group osd s =
     let pulled = after_pulling w group osd in
     sound_telling (applied_all pulled group osd) group osd

@@ -24,9 +24,11 @@ use Rattle.pgs_history.specs.Members.{pulled}
 use Rattle.pgs_history.specs.Answers.{submit_answer, collect_answer, last_number, tell_answer}
 use Rattle.pgs_history.specs.After.{after_submit, after_collect, after_pull, after_tell}
 use Rattle.pgs_shard.specs.Stores.{applied}
+use Rattle.pgs_shard.specs.declared.applied.Applied.{Applied}
+use Rattle.pgs_shard.specs.declared.applied.Applied.TheVariants as answers
 use Rattle.pgs_shard.specs.declared.event.Event.{Event as ShardEvent}
 use Rattle.pgs_shard.specs.declared.event.Event.TheVariants.{Fed, Damaged}
-use Rattle.pgs_shards.specs.Members.{Member, past_in, with_event, waits, with_applied}
+use Rattle.pgs_shards.specs.Members.{Member, past_in, with_event, with_applied, apply_answer}
 use Rattle.pgs_world.specs.State.{WorldState}
 
 -- ---- what the words of a line name
@@ -84,13 +86,15 @@ after_telling w group osd = record w {
 
 -- ---- the shards' steps
 
-abbrev pub apply_answer : WorldState → ℕ → ApplyAnswer
-apply_answer w osd = if waits (past_in w.members osd) then applies.Applied (applied_by w osd + 1) else applies.NotYet (applied_by w osd)
+-- an answer of a shard, as a line says it
+abbrev pub answer_said : Applied → ApplyAnswer
+answer_said (answers.NotYet count) = applies.NotYet count
+answer_said (answers.Applied number) = applies.Applied number
 
 abbrev pub after_applying : WorldState → ℕ → ℕ → WorldState
 after_applying w group osd = record w {
   members = with_applied osd w.members;
-  done = dones.Apply group osd (apply_answer w osd) ∷ w.done;
+  done = dones.Apply group osd (answer_said (apply_answer (past_in w.members osd))) ∷ w.done;
 }
 
 abbrev pub after_damaging : WorldState → ℕ → ℕ → Object → Snap → LineDamage → WorldState

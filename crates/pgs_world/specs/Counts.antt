@@ -1,6 +1,10 @@
 -- How far the members are: what was told is applied, what is applied was pulled, what was pulled stands in the log.
 use Rattle.std.specs.Prelude.{ℕ, Bool, ◌≡◌, ◌≤◌, ◌==◌, true, List, length, map}
 use Rattle.std.specs.List.{list_any}
+use Rattle.pgs_lines.specs.declared.basic.Basic.{Basic}
+use Rattle.pgs_lines.specs.declared.basic.Basic.TheVariants as basics
+use Rattle.pgs_lines.specs.declared.step.Step.{Step}
+use Rattle.pgs_lines.specs.declared.step.Step.TheVariants as steps
 use Rattle.pgs_history.specs.Log.{log}
 use Rattle.pgs_history.specs.Members.{pulled, told}
 use Rattle.pgs_history.specs.Facts.{upto}
@@ -31,3 +35,12 @@ pub record AreInStep (w : WorldState) : Type 0 where
   pub legal : IsLegal w.made w.past
   pub named : map (λ member. member.osd) w.members ≡ w.made.members
   pub each : (osd : ℕ) → is_member w.made osd ≡ true → IsInStep w.past osd (past_in w.members osd)
+
+-- the OSD that a step names is a member, where its answer turns on that
+abbrev pub IsNamed : Made → Basic → Type 0
+IsNamed made (basics.Pull group osd) = is_member made osd ≡ true
+IsNamed made basic = Unit {0}
+
+abbrev pub IsNamedStep : Made → Step → Type 0
+IsNamedStep made (steps.Basic basic) = IsNamed made basic
+IsNamedStep made step = Unit {0}

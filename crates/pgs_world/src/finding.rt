@@ -46,34 +46,50 @@ fn agrees(tables: &Tables<1>, clean: Option<u32>, family: &Family, shard: &Shard
     same_digest(clean, digest(tables, shard.medium().copy(family, HEAD)))
 }
 
-// Whether some member's head has the digest of what was written.
-#[tactic(auto, using(crate::proofs::Findings::any_seen))]
-fn some_agree(tables: &Tables<1>, clean: Option<u32>, family: &Family, shards: &Shards) -> bool
-    ensures { result ≡ list_any (λ m. findings.same_digest clean (findings.digest_of (stored_by m.past family.now HEAD))) shards.now }
+// Whether some shard's head has the digest of what was written.
+fn some_agree(
+    tables: &Tables<1>,
+    clean: Option<u32>,
+    family: &Family,
+    shards: &[Shard<RamMedium>],
+) -> bool
+    ensures { result ≡ list_any (λ s. findings.same_digest clean (findings.digest_of (stored_by s.past family.now HEAD))) shards.now }
 {
-    let shards = shards.as_slice();
     shards
         .iter()
         .any(|shard| agrees(tables, clean, family, shard))
 }
 
-// Whether some member's head hasn't.
-#[tactic(auto, using(crate::proofs::Findings::any_seen))]
-fn some_differ(tables: &Tables<1>, clean: Option<u32>, family: &Family, shards: &Shards) -> bool
-    ensures { result ≡ list_any (λ m. not (findings.same_digest clean (findings.digest_of (stored_by m.past family.now HEAD)))) shards.now }
+// Whether some shard's head hasn't.
+fn some_differ(
+    tables: &Tables<1>,
+    clean: Option<u32>,
+    family: &Family,
+    shards: &[Shard<RamMedium>],
+) -> bool
+    ensures { result ≡ list_any (λ s. not (findings.same_digest clean (findings.digest_of (stored_by s.past family.now HEAD)))) shards.now }
 {
-    let shards = shards.as_slice();
     shards
         .iter()
         .any(|shard| !agrees(tables, clean, family, shard))
 }
 
+fn both(a: bool, b: bool) -> bool
+    ensures { result ≡ (a && b) }
+{
+    a && b
+}
+
 // Whether a written object has copies of which some agree, and others don't.
+
 fn has_finding(tables: &Tables<1>, group: &Group, shards: &Shards, family: &Family) -> bool
     ensures { result ≡ findings.has_finding_in (clean (log group.now.past)) shards.now family.now }
 {
     let clean = digest(tables, group.clean_head(family));
-    some_agree(tables, clean, family, shards) && some_differ(tables, clean, family, shards)
+    let shards = shards.as_slice();
+    let agree = some_agree(tables, clean, family, shards);
+    let differ = some_differ(tables, clean, family, shards);
+    both(agree, differ)
 }
 
 /// How many of the written objects have findings.

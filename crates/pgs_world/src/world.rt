@@ -1,10 +1,19 @@
-ghost use Rattle.std.specs.Prelude.{◌≡◌, IfOk};
+ghost use Rattle.std.specs.Prelude.{◌≡◌, ℕ, true, reverse, IfOk, OnOk};
 ghost use Rattle.pgs_world.specs.State.{opening};
+ghost use Rattle.pgs_world.specs.Basics as basics;
+ghost use Rattle.pgs_world.specs.Steps as steps;
+ghost use Rattle.pgs_world.specs.Counts.{is_member, AreInStep, IsNamed, IsNamedStep};
+ghost use Rattle.pgs_world.specs.Sound.{IsSound};
 
+use crate::finding::count;
+use crate::naming::{damage_of, family_of, snap_of, write_of};
 use pgs_group::Group;
 use pgs_history::Made;
-use pgs_lines::Done;
+use pgs_lines::{ApplyAnswer, Basic, Damage, Done, Object, Snap, Step};
+use pgs_request::{Op, ReqId};
+use pgs_shard::Applied;
 use pgs_shards::Shards;
+use sqlite_items::Items;
 use std::alloc::{AllocError, Global};
 use std::marker::Model;
 
@@ -48,5 +57,256 @@ impl World {
             done: Vec::new(alloc),
             closes: 0,
         })
+    }
+
+    /// All that was done, the oldest first.
+    pub fn done(&self) -> &[Done]
+        ensures { reverse result.now ≡ self.now.done }
+    {
+        self.done.as_slice()
+    }
+
+    // A client writes.
+    fn write(
+        &mut self,
+        client: u32,
+        serial: u32,
+        object: &Object,
+        op: &Op,
+    ) -> Result<(), AllocError>
+        ensures { OnOk result (self.new ≡ basics.after_write self.old client serial object.now op.now) }
+    {
+        self.done.reserve(1)?;
+        let write = write_of(self.alloc, client, serial, object, op)?;
+        let object = object.clone()?;
+        let op = op.clone()?;
+        let answer = self.group.submit(write)?;
+        self.done.push_reserved(Done::Write {
+            client,
+            serial,
+            object,
+            op,
+            answer,
+        });
+        Ok(())
+    }
+
+    // A client asks for the outcome of a request.
+    fn collect(&mut self, group: u32, client: u32, serial: u32) -> Result<(), AllocError>
+        ensures { OnOk result (self.new ≡ basics.after_collecting self.old group client serial) }
+    {
+        self.done.reserve(1)?;
+        let answer = self.group.collect(ReqId { client, serial })?;
+        self.done.push_reserved(Done::Collect {
+            group,
+            client,
+            serial,
+            answer,
+        });
+        Ok(())
+    }
+
+    // A member pulls the log. Where memory runs out it may have pulled items that its shard wasn't fed.
+    #[tactic(auto, using(crate::proofs::Pulls::pull_next, crate::proofs::Pulls::pull_from))]
+    fn pull(&mut self, group: u32, osd: u32) -> Result<(), AllocError>
+        requires in_step { AreInStep self.old }
+        requires member { is_member self.old.made osd ≡ true }
+        ensures { OnOk result (self.new ≡ basics.after_pulling self.old group osd) }
+    {
+        self.done.reserve(1)?;
+        let pulled = self.group.pull(osd)?;
+        let from = pulled.from;
+        let to = pulled.to;
+        if from < to {
+            self.shards.feed(osd, from, pulled.items)?;
+        }
+        self.done.push_reserved(Done::Pull {
+            group,
+            osd,
+            from,
+            to,
+        });
+        Ok(())
+    }
+
+    // A member applies its next item, if one waits.
+    fn apply(&mut self, group: u32, osd: u32) -> Result<(), AllocError>
+        ensures { OnOk result (self.new ≡ basics.after_applying self.old group osd) }
+    {
+        self.done.reserve(1)?;
+        let answer = answer_of(self.shards.apply_next(osd)?);
+        self.done.push_reserved(Done::Apply { group, osd, answer });
+        Ok(())
+    }
+
+    // A member tells how far it has applied the log.
+    fn tell(&mut self, group: u32, osd: u32) -> Result<(), AllocError>
+        ensures { OnOk result (self.new ≡ basics.after_telling self.old group osd) }
+    {
+        self.done.reserve(1)?;
+        let applied = self.group.tell(osd, self.shards.applied(osd))?;
+        self.done.push_reserved(Done::Tell {
+            group,
+            osd,
+            applied,
+        });
+        Ok(())
+    }
+
+    // A copy that a member stores is damaged.
+    fn damage(
+        &mut self,
+        group: u32,
+        osd: u32,
+        object: &Object,
+        snap: Snap,
+        damage: Damage,
+    ) -> Result<(), AllocError>
+        ensures { OnOk result (self.new ≡ basics.after_damaging self.old group osd object.now snap damage) }
+    {
+        self.done.reserve(1)?;
+        let family = family_of(self.alloc, object)?;
+        let object = object.clone()?;
+        self.shards
+            .damage(osd, family, snap_of(snap), damage_of(damage))?;
+        self.done.push_reserved(Done::Damage {
+            group,
+            osd,
+            object,
+            snap,
+            damage,
+        });
+        Ok(())
+    }
+
+    /// Does a single step, and keeps it with its answer. Where memory runs out a part of it may be done.
+    #[tactic(auto, using(crate::proofs::Sound::sound_basic))]
+    pub fn basic(&mut self, basic: &Basic) -> Result<(), AllocError>
+        requires sound { IsSound self.old }
+        requires named { IsNamed self.old.made basic.now }
+        ensures after { OnOk result (self.new ≡ basics.after_basic self.old basic.now) }
+        ensures sound { OnOk result (IsSound self.new) }
+    {
+        self.do_basic(basic)?;
+        Ok(())
+    }
+
+    fn do_basic(&mut self, basic: &Basic) -> Result<(), AllocError>
+        requires sound { IsSound self.old }
+        requires named { IsNamed self.old.made basic.now }
+        ensures { OnOk result (self.new ≡ basics.after_basic self.old basic.now) }
+    {
+        match basic {
+            Basic::Write {
+                client,
+                serial,
+                object,
+                op,
+            } => self.write(*client, *serial, object, op),
+            Basic::Collect {
+                group,
+                client,
+                serial,
+            } => self.collect(*group, *client, *serial),
+            Basic::Pull { group, osd } => self.pull(*group, *osd),
+            Basic::Apply { group, osd } => self.apply(*group, *osd),
+            Basic::Tell { group, osd } => self.tell(*group, *osd),
+            Basic::Damage {
+                group,
+                osd,
+                object,
+                snap,
+                damage,
+            } => self.damage(*group, *osd, object, *snap, *damage),
+        }
+    }
+
+    // A member applies its items until none waits.
+    #[tactic(auto, using(crate::proofs::Settles::times_next))]
+    fn apply_all(&mut self, group: u32, osd: u32) -> Result<(), AllocError>
+        ensures { OnOk result (self.new ≡ steps.applied_all self.old group osd) }
+    {
+        let waiting = self.shards.waiting(osd);
+        for _ in 0..waiting {
+            self.apply(group, osd)?;
+        }
+        self.apply(group, osd)
+    }
+
+    // A member pulls, applies until nothing waits, and tells.
+    fn settle_member(&mut self, group: u32, osd: u32) -> Result<(), AllocError>
+        requires in_step { AreInStep self.old }
+        requires member { is_member self.old.made osd ≡ true }
+        ensures { OnOk result (self.new ≡ steps.member_settled self.old group osd) }
+    {
+        self.pull(group, osd)?;
+        self.apply_all(group, osd)?;
+        self.tell(group, osd)?;
+        Ok(())
+    }
+
+    // Every member does so, in declared order.
+    #[tactic(auto, using(crate::proofs::Settles::settling))]
+    fn settle(&mut self, group: u32) -> Result<(), AllocError>
+        requires sound { IsSound self.old }
+        ensures { OnOk result (self.new ≡ steps.settled self.old group self.old.made.members) }
+    {
+        let members = Items::from_slice(self.alloc, self.group.made().members.as_slice())?;
+        for osd in members.as_slice() {
+            self.settle_member(group, *osd)?;
+        }
+        Ok(())
+    }
+
+    // The one chunk of a scrub is closed.
+    #[tactic(auto, using(crate::proofs::Settles::closes_next, crate::proofs::Settles::closes_most))]
+    fn sweep(&mut self, group: u32) -> Result<(), AllocError>
+        ensures { OnOk result (self.new ≡ steps.swept self.old group) }
+    {
+        self.done.reserve(1)?;
+        let findings = count(self.alloc, &self.group, &self.shards)?;
+        let chunk = self.closes + 1;
+        self.closes = chunk;
+        self.done.push_reserved(Done::Close {
+            group,
+            chunk,
+            findings,
+            snaps: 0,
+        });
+        Ok(())
+    }
+
+    /// Does a step of a script. Where memory runs out a part of it may be done.
+    #[tactic(auto, using(crate::proofs::Sound::sound_step))]
+    pub fn step(&mut self, step: &Step) -> Result<(), AllocError>
+        requires sound { IsSound self.old }
+        requires named { IsNamedStep self.old.made step.now }
+        ensures after { OnOk result (self.new ≡ steps.after_step self.old step.now) }
+        ensures sound { OnOk result (IsSound self.new) }
+    {
+        self.do_step(step)?;
+        Ok(())
+    }
+
+    fn do_step(&mut self, step: &Step) -> Result<(), AllocError>
+        requires sound { IsSound self.old }
+        requires named { IsNamedStep self.old.made step.now }
+        ensures { OnOk result (self.new ≡ steps.after_step self.old step.now) }
+    {
+        match step {
+            Step::Basic { basic } => self.do_basic(basic),
+            Step::Settle { group } => self.settle(*group),
+            Step::Sweep { group, .. } => self.sweep(*group),
+        }
+    }
+}
+
+// The answer of a line.
+fn answer_of(applied: Applied) -> ApplyAnswer
+    ensures { result ≡ basics.answer_said applied }
+{
+    match applied {
+        Applied::NotYet { applied } => ApplyAnswer::NotYet { applied },
+        Applied::Applied { number } => ApplyAnswer::Applied { number },
     }
 }
