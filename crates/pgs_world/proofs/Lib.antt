@@ -6,3 +6,4 @@ pub mod Sound
 pub mod Findings
 pub mod Pulls
 pub mod Settles
+pub mod Runs

@@ -48,7 +48,7 @@ pub settling_member : (start : WorldState) (group : ℕ) (members : List ℕ) (p
 settling_member start group members place now osd h within is =
     ap (λ made. is_member made osd) h.same ∙ ap (list_any (λ other. other == osd)) (sym h.all) ∙ among members place osd within is
 
-times_made : (n : ℕ) (w : WorldState) (group osd : ℕ) → (applied_times n w group osd).made ≡ w.made
+pub times_made : (n : ℕ) (w : WorldState) (group osd : ℕ) → (applied_times n w group osd).made ≡ w.made
 times_made zero w group osd = refl
 times_made (suc n) w group osd = times_made n (after_applying w group osd) group osd
 

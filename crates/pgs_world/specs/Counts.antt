@@ -1,6 +1,6 @@
 -- How far the members are: what was told is applied, what is applied was pulled, what was pulled stands in the log.
 use Rattle.std.specs.Prelude.{ℕ, Bool, ◌≡◌, ◌≤◌, ◌==◌, true, List, length, map}
-use Rattle.std.specs.List.{list_any}
+use Rattle.std.specs.List.{list_any, AllByRecursion}
 use Rattle.pgs_lines.specs.declared.basic.Basic.{Basic}
 use Rattle.pgs_lines.specs.declared.basic.Basic.TheVariants as basics
 use Rattle.pgs_lines.specs.declared.step.Step.{Step}
@@ -44,3 +44,6 @@ IsNamed made basic = Unit {0}
 abbrev pub IsNamedStep : Made → Step → Type 0
 IsNamedStep made (steps.Basic basic) = IsNamed made basic
 IsNamedStep made step = Unit {0}
+
+abbrev pub AreNamed : Made → List Step → Type 0
+AreNamed made script = AllByRecursion (IsNamedStep made) script

@@ -2,7 +2,7 @@ ghost use Rattle.std.specs.Prelude.{◌≡◌, ℕ, true, reverse, IfOk, OnOk};
 ghost use Rattle.pgs_world.specs.State.{opening};
 ghost use Rattle.pgs_world.specs.Basics as basics;
 ghost use Rattle.pgs_world.specs.Steps as steps;
-ghost use Rattle.pgs_world.specs.Counts.{is_member, AreInStep, IsNamed, IsNamedStep};
+ghost use Rattle.pgs_world.specs.Counts.{is_member, AreInStep, IsNamed, IsNamedStep, AreNamed};
 ghost use Rattle.pgs_world.specs.Sound.{IsSound};
 
 use crate::finding::count;
@@ -285,6 +285,20 @@ impl World {
         ensures sound { OnOk result (IsSound self.new) }
     {
         self.do_step(step)?;
+        Ok(())
+    }
+
+    /// Does the steps of a script, in order. Where memory runs out some of them are done.
+    #[tactic(auto, using(crate::proofs::Runs::running))]
+    pub fn run(&mut self, script: &[Step]) -> Result<(), AllocError>
+        requires sound { IsSound self.old }
+        requires named { AreNamed self.old.made script.now }
+        ensures after { OnOk result (self.new ≡ steps.after_steps self.old script.now) }
+        ensures sound { OnOk result (IsSound self.new) }
+    {
+        for step in script {
+            self.step(step)?;
+        }
         Ok(())
     }
 
