@@ -70,10 +70,13 @@ has_noted : (families : List Family) (last other : Family) → has (noted last f
 has_noted families last other e =
     let P : Bool → Type 0 = λ v. has families last ≡ v → has (cond v families (families ++ last ∷ [])) other ≡ false → (has families other ≡ false) × (same_family other last ≡ false) in
     (elim (has families last) as P [
-      | true ↦ λ old none. (none, elim (true_or_false (same_family other last)) [
+      | true ↦ λ old none. (
+        none,
+        elim (true_or_false (same_family other last)) [
           | inl same ↦ absurd (true_false (sym old ∙ ap (has families) (sym (same_family_is other last same)) ∙ none))
           | inr differs ↦ differs
-        ])
+        ],
+      )
       | false ↦ λ new none.
           let parts = either_false (has families other) (has (last ∷ []) other) (sym (list_any-append (same_family other) families (last ∷ [])) ∙ none) in
           (parts.0, (either_false (same_family other last) false parts.1).0)

@@ -39,7 +39,7 @@ legal_collect made past id legal = collected_legal made past id (collect_answer 
 pub legal_pull : (made : Made) (past : List Event) (osd : ℕ) → IsLegal made past → IsLegal made (after_pull past osd)
 legal_pull made past osd legal =
     let P : Bool → Type 0 = λ v. nat_lt (pulled past osd) (last_number past) ≡ v
-        → IsLegal made (cond v (Pull osd (pulled past osd) (last_number past) ∷ past) past) in
+    → IsLegal made (cond v (Pull osd (pulled past osd) (last_number past) ∷ past) past) in
     (elim (nat_lt (pulled past osd) (last_number past)) as P [
       | true ↦ λ e. (record { begins = refl; ends = refl; more = grind (arith, nat_tests, e) }, legal)
       | false ↦ λ e. legal

@@ -31,7 +31,7 @@ third_fails false false true p q r e = absurd cc
 -- and the log too
 pub log_within : (held : ℕ) (head : Option ObjCopy) (log_bytes : ℕ) (op : Op) → refusal_of held head log_bytes op ≡ None → log_bytes + payload_size op ≤ LOG_MAX
 unfolding refusal_of
-log_within held head log_bytes op e = 
+log_within held head log_bytes op e =
     not_over LOG_MAX (log_bytes + payload_size op)
     (third_fails (nat_lt OBJECT_MAX (size_after op)) (nat_lt STORE_MAX (held_after held head op)) (nat_lt LOG_MAX (log_bytes + payload_size op))
     (ObjectTooLarge (size_after op)) (StoreFull (held_after held head op)) (LogFull (log_bytes + payload_size op)) e)

@@ -1,8 +1,7 @@
-use crate::tests::making::write;
-use pgs_copy::Effect;
+use crate::tests::making::{family, write};
 use pgs_op::{CleanStore, LOG_MAX, OBJECT_MAX, WriteError, make_effects};
 use pgs_request::Refusal;
-use std::alloc::Global;
+use std::alloc::{AllocError, Global};
 use std::test::Fail;
 
 // Makes a write's effects and applies them.
@@ -19,22 +18,24 @@ fn accept(
     Ok(effects.len())
 }
 
+// Whether the head of a name is all that a store holds, with so many bytes.
+fn holds(alloc: Global, clean: &CleanStore, name: &[u8], bytes: u64) -> Result<bool, AllocError> {
+    let family = family(alloc, b"", b"", name)?;
+    match clean.head(&family) {
+        Some(head) => Ok(head.bytes.len() as u64 == bytes && clean.held() == bytes),
+        None => Ok(false),
+    }
+}
+
+// Where no head is, an empty one is made before it takes its data.
 #[test]
 fn a_first_and_a_second_write(rt: HostRuntime) -> Result<(), Fail> {
-    let alloc = rt.alloc();
-    let mut clean = CleanStore::new(alloc);
-    let first = write(alloc, b"x", 3)?;
-    assert!(rt; clean.head(&first.family).is_none());
-    assert!(rt; accept(alloc, &mut clean, 0, b"x", 3) == Ok(2));
-    assert_eq!(rt; clean.held(), 3);
-    assert!(rt; accept(alloc, &mut clean, 3, b"x", 2) == Ok(1));
-    assert_eq!(rt; clean.held(), 2);
-    let head = clean.head(&first.family).ok_or("a head")?;
-    assert_eq!(rt; head.bytes.as_slice(), b"\x07\x07".as_slice());
-    let effects = make_effects(alloc, &clean, 5, &first)
-        .ok()
-        .ok_or("effects")?;
-    assert!(rt; matches!(effects.as_slice(), [(_, Effect::SetData { .. })]));
+    let mut clean = CleanStore::new(rt.alloc());
+    assert!(rt; accept(rt.alloc(), &mut clean, 0, b"x", 3) == Ok(2));
+    assert!(rt; holds(rt.alloc(), &clean, b"x", 3)?);
+    assert!(rt; accept(rt.alloc(), &mut clean, 3, b"x", 2) == Ok(1));
+    assert!(rt; holds(rt.alloc(), &clean, b"x", 2)?);
+    assert!(rt; !holds(rt.alloc(), &clean, b"y", 0)?);
     Ok(())
 }
 
