@@ -4,7 +4,7 @@ use Rattle.std.specs.Prelude.{IfSome}
 use Rattle.pgs_edge.specs.Reading.{GaveAtLeast}
 use Rattle.pgs_texts.specs.Text.{IsTextOf, IsLimit}
 use Rattle.pgs_script.specs.Script.{script_grammar}
-use Rattle.pgs_script.specs.declared.script.StepScript.{StepScript}
+use Rattle.pgs_order.specs.declared.step_script.StepScript.{StepScript}
 use Rattle.pgs_top.specs.Histories.{no_histories}
 use Rattle.pgs_top.specs.Ends.{INPUT_MAX, PassesLimit, IsDue, Tells, Due, Scripted, IsRun}
 use Rattle.pgs_top.specs.declared.histories.Histories.{Histories}

@@ -4,7 +4,7 @@ use Rattle.std.specs.Fmt.{decimal}
 use Rattle.std.specs.Io.KnownBytes.{Appends, Keeps}
 use Rattle.pgs_texts.specs.Text.{IsTextOf, IsBadLine, IsLimit}
 use Rattle.pgs_script.specs.Script.{script_grammar}
-use Rattle.pgs_script.specs.declared.script.StepScript.{StepScript}
+use Rattle.pgs_order.specs.declared.step_script.StepScript.{StepScript}
 use Rattle.pgs_top.specs.Histories.{histories_of, no_histories}
 use Rattle.pgs_top.specs.Output.{text_of}
 use Rattle.pgs_top.specs.declared.histories.Histories.{Histories}

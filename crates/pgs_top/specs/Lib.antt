@@ -1,5 +1,4 @@
--- What the program keeps, finds and writes.
+-- What the program keeps and writes.
 pub mod Histories
-pub mod Findings
 pub mod Output
 pub mod Ends

@@ -1,12 +1,11 @@
-use crate::member::Member;
 use pgs_script::Declarations;
-use sqlite_items::Items;
+use pgs_world::World;
 
-/// What happened: what the script declares, and what each member did since.
+/// What happened: what the script declares, and its group's world after all steps.
 #[derive(Drop)]
 pub struct Histories {
     /// The opening state.
     pub declared: Declarations,
-    /// The members of the group, in declared order. None where nothing ran.
-    pub members: Items<Member>,
+    /// The group and its members, with all that was done. None where nothing ran, or no group is declared.
+    pub world: Option<World>,
 }

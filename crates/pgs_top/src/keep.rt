@@ -1,18 +1,18 @@
 //! The histories of a script.
-ghost use Rattle.std.specs.Prelude.{◌≡◌, ◌++◌, IfOk, IsTrue, map};
-ghost use Rattle.pgs_name.specs.Bounds.{is_named};
-ghost use Rattle.pgs_name.specs.declared.object_id.TheConstants.{HEAD};
-ghost use Rattle.pgs_script.specs.Script.{AreSpelled};
+ghost use Rattle.std.specs.Prelude.{◌≡◌, IfOk};
+ghost use Rattle.pgs_order.specs.Ordered.{IsOrdered, AreGroups, AreNamed as AreNamedIn};
+ghost use Rattle.pgs_world.specs.State.{opening};
+ghost use Rattle.pgs_world.specs.Steps.{after_steps};
+ghost use Rattle.pgs_world.specs.Counts.{AreNamed};
+ghost use Rattle.pgs_world.specs.Sound.{IsSound};
 ghost use Rattle.pgs_top.specs.Histories as histories;
+ghost use Rattle.pgs_top.specs.Histories.{OfWorld};
 
 use crate::histories::Histories;
-use crate::item::first_item;
-use crate::member::Member;
-use pgs_copy::Damage;
-use pgs_lines::{Basic, Object, Snap, Step};
-use pgs_name::HEAD;
-use pgs_request::Op;
+use pgs_history::Made;
+use pgs_lines::Step;
 use pgs_script::{Declarations, Group, StepScript};
+use pgs_world::World;
 use sqlite_items::Items;
 use std::alloc::{AllocError, Global};
 
@@ -22,122 +22,67 @@ pub fn nothing(alloc: Global) -> Histories
 {
     Histories {
         declared: Declarations::new(alloc),
-        members: Items::new(alloc),
+        world: None,
     }
 }
 
-fn snap_of(snap: Snap) -> u64
-    ensures { result ≡ histories.snap_of snap }
+// What a declared group is made with.
+fn made_of(alloc: Global, group: &Group) -> Result<Made, AllocError>
+    ensures { IfOk result (λ made. made ≡ histories.made_of group.now) }
 {
-    match snap {
-        Snap::Head => HEAD,
-    }
+    let members = Items::from_slice(alloc, group.members.as_slice())?;
+    Ok(Made {
+        number: group.group,
+        epoch: group.epoch,
+        members,
+    })
 }
 
-fn damage_of(damage: pgs_lines::Damage) -> Damage
-    ensures { result ≡ histories.damage_of damage }
+// The world of a declared group after all steps.
+#[tactic(auto, using(crate::proofs::Worlds::opening_sound, crate::proofs::Worlds::opening_named))]
+fn world_of(alloc: Global, group: &Group, script: &[Step]) -> Result<World, AllocError>
+    requires { AreNamed (histories.made_of group.now) script.now }
+    ensures world { IfOk result (λ w. w ≡ after_steps (opening (histories.made_of group.now)) script.now) }
+    ensures sound { IfOk result (λ w. IsSound w) }
 {
-    match damage {
-        pgs_lines::Damage::Flip { at, xor } => Damage::Flip { at, xor },
-    }
+    let made = made_of(alloc, group)?;
+    let mut world = World::new(alloc, made)?;
+    world.run(script)?;
+    Ok(world)
 }
 
-// What the steps do to the copies of one OSD.
-fn damages(alloc: Global, osd: u32, steps: &[Step]) -> Result<Items<(u64, Damage)>, AllocError>
-    ensures { IfOk result (λ ds. ds ≡ histories.damages_of osd steps.now) }
-{
-    let mut damages = Items::new(alloc);
-    for step in steps {
-        if let Step::Basic { basic } = step {
-            if let Basic::Damage {
-                osd: other,
-                snap,
-                damage,
-                ..
-            } = basic
-            {
-                if *other == osd {
-                    damages.push((snap_of(*snap), damage_of(*damage)))?;
-                }
-            }
-        }
-    }
-    Ok(damages)
-}
-
-// A member under a write.
-fn member(
+// The world of the first group, if one is declared.
+#[tactic(auto, using(crate::proofs::Worlds::all_named))]
+fn first_world(
     alloc: Global,
-    epoch: u32,
-    object: &Object,
-    op: &Op,
-    steps: &[Step],
-    osd: u32,
-) -> Result<Member, AllocError>
-    requires { IsTrue (is_named object.now.space object.now.key object.now.name HEAD) }
-    ensures { IfOk result (λ m. m ≡ histories.member_of (histories.item_of epoch object.now op.now) steps.now osd) }
-{
-    let item = first_item(alloc, epoch, object, op)?;
-    let damages = damages(alloc, osd, steps)?;
-    Ok(Member { osd, item, damages })
-}
-
-// All members under a write.
-fn written(
-    alloc: Global,
-    group: &Group,
-    object: &Object,
-    op: &Op,
-    steps: &[Step],
-) -> Result<Items<Member>, AllocError>
-    requires { IsTrue (is_named object.now.space object.now.key object.now.name HEAD) }
-    ensures { IfOk result (λ ms. ms ≡ map (histories.member_of (histories.item_of group.now.epoch object.now op.now) steps.now) group.now.members) }
-{
-    let mut members = Items::new(alloc);
-    for osd in group.members.as_slice() {
-        let member = member(alloc, group.epoch, object, op, steps, *osd)?;
-        members.push(member)?;
-    }
-    Ok(members)
-}
-
-// The members of a group.
-#[tactic(auto, using(crate::proofs::Named::written_is_named))]
-fn group_members(alloc: Global, group: &Group, steps: &[Step]) -> Result<Items<Member>, AllocError>
-    requires { AreSpelled steps.now }
-    ensures { IfOk result (λ ms. ms ≡ histories.members_of group.now steps.now) }
-{
-    let Some(Step::Basic { basic }) = steps.first() else {
-        return Ok(Items::new(alloc));
-    };
-    let Basic::Write { object, op, .. } = basic else {
-        return Ok(Items::new(alloc));
-    };
-    written(alloc, group, object, op, steps)
-}
-
-fn all_members(alloc: Global, groups: &[Group], steps: &[Step]) -> Result<Items<Member>, AllocError>
-    requires { AreSpelled steps.now }
-    ensures { IfOk result (λ ms. ms ≡ histories.all_members groups.now steps.now) }
+    groups: &[Group],
+    script: &[Step],
+) -> Result<Option<World>, AllocError>
+    requires groups { AreGroups groups.now }
+    requires named { AreNamedIn groups.now script.now }
+    ensures world { IfOk result (λ w. w ≡ histories.world_of groups.now script.now) }
+    ensures sound { IfOk result (λ w. OfWorld IsSound w) }
 {
     let Some(group) = groups.first() else {
-        return Ok(Items::new(alloc));
+        return Ok(None);
     };
-    group_members(alloc, group, steps)
+    let world = world_of(alloc, group, script)?;
+    Ok(Some(world))
 }
 
 /// What happens in a script.
 pub fn keep(alloc: Global, script: StepScript) -> Result<Histories, AllocError>
-    requires { AreSpelled script.steps }
-    ensures { IfOk result (λ kept. kept ≡ histories.histories_of script) }
+    requires { IsOrdered script }
+    ensures kept { IfOk result (λ kept. kept ≡ histories.histories_of script) }
+    ensures sound { IfOk result (λ kept. OfWorld IsSound kept.world) }
 {
-    let members = all_members(
+    let world = first_world(
         alloc,
         script.declared.groups.as_slice(),
         script.steps.as_slice(),
     )?;
     Ok(Histories {
         declared: script.declared,
-        members,
+        world,
     })
 }

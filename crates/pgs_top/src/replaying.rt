@@ -1,8 +1,12 @@
 ghost use Rattle.std.specs.Prelude.{◌≡◌, ◌≢◌, ◌≤◌, length, IfOk, IfErr};
 ghost use Rattle.pgs_cause.specs.Count.{Rose};
 ghost use Rattle.pgs_texts.specs.Text.{IsTextOf};
-ghost use Rattle.pgs_script.specs.Script.{script_grammar, AreSpelled};
-ghost use Rattle.pgs_top.specs.Histories.{histories_of, no_histories};
+ghost use Rattle.pgs_order.specs.Ordered.{IsOrdered};
+ghost use Rattle.pgs_script.specs.Script.{script_grammar};
+ghost use Rattle.pgs_world.specs.Acknowledged.{AreAcknowledged};
+ghost use Rattle.pgs_world.specs.Counts.{AreInStep};
+ghost use Rattle.pgs_world.specs.Sound.{IsSound};
+ghost use Rattle.pgs_top.specs.Histories.{histories_of, no_histories, OfWorld};
 ghost use Rattle.pgs_top.specs.Ends.{INPUT_MAX, IsDue, Due, IsWritten, Scripted, IsRefusal, IsRun};
 
 use crate::ended::{Ended, Status};
@@ -18,7 +22,7 @@ use std::alloc::Global;
 fn script_of(alloc: Global, text: &[u8]) -> Result<StepScript, Status>
     requires { length text.now ≤ INPUT_MAX }
     ensures reads { IfOk result (λ script. IsTextOf script_grammar script text.now) }
-    ensures spelled { IfOk result (λ script. AreSpelled script.steps) }
+    ensures ordered { IfOk result (λ script. IsOrdered script) }
     ensures due { IfErr result (λ status. IsDue text.now no_histories status) }
     ensures refusal { IfErr result (λ status. IsRefusal status) }
     ensures no_fault { IfErr result (λ status. status ≢ Status.ReadFault) }
@@ -35,7 +39,7 @@ fn script_of(alloc: Global, text: &[u8]) -> Result<StepScript, Status>
 #[tactic(auto, using(crate::proofs::Dues::dues))]
 fn read_script<S: Source>(alloc: Global, source: &mut S) -> Result<StepScript, Status>
     ensures scripted { IfOk result (λ script. Scripted (S.left source.old) script) }
-    ensures spelled { IfOk result (λ script. AreSpelled script.steps) }
+    ensures ordered { IfOk result (λ script. IsOrdered script) }
     ensures due { IfErr result (λ status. Due (S.left source.old) no_histories status) }
     ensures refusal { IfErr result (λ status. IsRefusal status) }
     ensures fault { IfErr result (λ status. status ≡ Status.ReadFault → Rose (S.faults source.old) (S.faults source.new)) }
@@ -50,8 +54,9 @@ fn read_script<S: Source>(alloc: Global, source: &mut S) -> Result<StepScript, S
 
 // What happens in a script, written.
 fn run<K: Sink>(alloc: Global, script: StepScript, sink: &mut K) -> Ended
-    requires { AreSpelled script.steps }
+    requires { IsOrdered script }
     ensures run { IsRun script result.kept result.status }
+    ensures sound { OfWorld IsSound result.kept.world }
     ensures written { IsWritten (K.taken sink.old) (K.taken sink.new) result.kept result.status }
     ensures fault { result.status ≡ Status.WriteFault → Rose (K.faults sink.old) (K.faults sink.new) }
 {
@@ -67,7 +72,7 @@ fn run<K: Sink>(alloc: Global, script: StepScript, sink: &mut K) -> Ended
             kept: nothing(alloc),
         };
     };
-    match write_all(sink, text.as_bytes()) {
+    match write_all(sink, text.as_slice()) {
         Ok(()) => Ended {
             status: Status::Ok,
             kept,
@@ -80,12 +85,16 @@ fn run<K: Sink>(alloc: Global, script: StepScript, sink: &mut K) -> Ended
 }
 
 /// Reads a script, replays it, and writes what happened. Nothing is written before the whole script was read.
-#[tactic(auto, using(crate::proofs::Dues::run_due))]
+#[tactic(auto, using(crate::proofs::Dues::run_due, crate::proofs::Worlds::acknowledged, crate::proofs::Worlds::in_step))]
 pub fn replay<S: Source, K: Sink>(alloc: Global, source: &mut S, sink: &mut K) -> Ended
     // How it ends is due for what was read,
     ensures due { Due (S.left source.old) result.kept result.status }
     // and what is written for what happened.
     ensures written { IsWritten (K.taken sink.old) (K.taken sink.new) result.kept result.status }
+    // Every write that was answered as acknowledged stands in the log once, and each acting OSD applied it.
+    ensures acknowledged { OfWorld AreAcknowledged result.kept.world }
+    // Members told of no more than they applied, and applied no more than they pulled of the log, in its order.
+    ensures in_step { OfWorld AreInStep result.kept.world }
     // A fault comes only where the count of that end rose.
     ensures read_fault { result.status ≡ Status.ReadFault → Rose (S.faults source.old) (S.faults source.new) }
     ensures write_fault { result.status ≡ Status.WriteFault → Rose (K.faults sink.old) (K.faults sink.new) }

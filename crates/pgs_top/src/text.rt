@@ -1,35 +1,38 @@
-ghost use Rattle.std.specs.Prelude.{◌≡◌, IfOk, string_bytes};
+ghost use Rattle.std.specs.Prelude.{◌≡◌, ◌++◌, reverse, IfOk, OnOk};
 ghost use Rattle.pgs_top.specs.Output as output;
 
-use crate::findings::find;
 use crate::histories::Histories;
-use crate::member::Member;
+use pgs_lines::{Done, print};
 use std::alloc::{AllocError, Global};
 
-// The line of the scrub's one chunk.
-#[tactic(auto, using(crate::proofs::Lines::closed_line))]
-fn closed_line(alloc: Global, findings: u64) -> Result<String, AllocError>
-    ensures { IfOk result (λ s. string_bytes s ≡ output.line_of (output.closed_words 0 1 findings 0)) }
+// The lines of what was done.
+#[tactic(auto, using(crate::proofs::Lines::lines_next, crate::proofs::Lines::lines_end))]
+fn lines(alloc: Global, done: &[Done]) -> Result<Vec<u8>, AllocError>
+    ensures { IfOk result (λ text. text.items ≡ output.lines done.now) }
 {
-    format!(in alloc; "close 0 : closed 1 findings {findings} snaps 0 completes\n")
+    let mut text = Vec::new(alloc);
+    for one in done {
+        print(alloc, one, &mut text)?;
+    }
+    Ok(text)
 }
 
-// The lines of the scrub.
-fn scrub_lines(alloc: Global, members: &[Member]) -> Result<String, AllocError>
-    ensures { IfOk result (λ s. string_bytes s ≡ output.scrub_lines members.now) }
+// The same of a world, if there is one.
+#[tactic(auto, using(crate::proofs::Lines::turned))]
+fn world_lines(alloc: Global, kept: &Histories) -> Result<Vec<u8>, AllocError>
+    ensures { IfOk result (λ text. text.items ≡ output.world_lines kept.now.world) }
 {
-    if members.is_empty() {
-        return Ok(String::new(alloc));
+    match &kept.world {
+        Some(world) => lines(alloc, world.done()),
+        None => Ok(Vec::new(alloc)),
     }
-    let findings = find(alloc, members)?;
-    closed_line(alloc, findings)
 }
 
 /// The text of what happened.
-pub fn text(alloc: Global, kept: &Histories) -> Result<String, AllocError>
-    ensures { IfOk result (λ s. string_bytes s ≡ output.text_of kept.now) }
+pub fn text(alloc: Global, kept: &Histories) -> Result<Vec<u8>, AllocError>
+    ensures { IfOk result (λ text. text.items ≡ output.text_of kept.now) }
 {
-    let mut text = scrub_lines(alloc, kept.members.as_slice())?;
-    text.push_str("end\n")?;
+    let mut text = world_lines(alloc, kept)?;
+    text.extend_from_slice(b"end\n")?;
     Ok(text)
 }

@@ -1,5 +1,8 @@
 ghost use Rattle.std.specs.Prelude.{◌≡◌, ◌≢◌, ◌↔◌, map, string_bytes, MatchBool};
 ghost use Rattle.pgs_cause.specs.Count.{Rose};
+ghost use Rattle.pgs_world.specs.Acknowledged.{AreAcknowledged};
+ghost use Rattle.pgs_world.specs.Counts.{AreInStep};
+ghost use Rattle.pgs_top.specs.Histories.{OfWorld};
 ghost use Rattle.pgs_top.specs.Ends.{Due, IsWritten, replay_words};
 
 use crate::ended::{Ended, Status};
@@ -31,6 +34,10 @@ pub fn top<S: Source, K: Sink>(
     ensures due { Due (S.left source.old) result.kept result.status }
     // and what is written for what happened.
     ensures written { IsWritten (K.taken sink.old) (K.taken sink.new) result.kept result.status }
+    // Every write that was answered as acknowledged stands in the log once, and each acting OSD applied it.
+    ensures acknowledged { OfWorld AreAcknowledged result.kept.world }
+    // Members told of no more than they applied, and applied no more than they pulled of the log, in its order.
+    ensures in_step { OfWorld AreInStep result.kept.world }
     // A fault comes only where the count of that end rose.
     ensures read_fault { result.status ≡ Status.ReadFault → Rose (S.faults source.old) (S.faults source.new) }
     ensures write_fault { result.status ≡ Status.WriteFault → Rose (K.faults sink.old) (K.faults sink.new) }

@@ -31,7 +31,7 @@ settled_made w group (osd ∷ osds) =
 step_made : (w : WorldState) (step : Step) → (after_step w step).made ≡ w.made
 step_made w (steps.Basic basic) = basic_made w basic
 step_made w (steps.Settle group) = settled_made w group w.made.members
-step_made w (steps.Sweep group kind) = refl
+step_made w (steps.Sweep group kind) = settled_made w group w.made.members
 
 -- on the way through a script, of which the steps from a place on are left
 pub record IsRunning (start : WorldState) (script : List Step) (place : ℕ) (now : WorldState) : Type 0 where

@@ -69,7 +69,10 @@ sound_settled w group (osd ∷ osds) s = sound_settled (member_settled w group o
 pub sound_step : (w : WorldState) (step : Step) → IsSound w → IsSound (after_step w step)
 sound_step w (steps.Basic basic) s = sound_basic w basic s
 sound_step w (steps.Settle group) s = sound_settled w group w.made.members s
-sound_step w (steps.Sweep group kind) s = kept_sound w (swept w group) _ s (in_done w (swept w group).done s.in_step) (grows_done w (swept w group).done) refl tt
+sound_step w (steps.Sweep group kind) s =
+    let before = settled w group w.made.members in
+    let sound = sound_settled w group w.made.members s in
+    kept_sound before (swept before group) _ sound (in_done before (swept before group).done sound.in_step) (grows_done before (swept before group).done) refl tt
 
 pub sound_steps : (w : WorldState) (script : List Step) → IsSound w → IsSound (after_steps w script)
 sound_steps w [] s = s

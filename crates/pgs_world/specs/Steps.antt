@@ -32,7 +32,7 @@ abbrev pub settled : WorldState → ℕ → List ℕ → WorldState
 settled w group [] = w
 settled w group (osd ∷ osds) = settled (member_settled w group osd) group osds
 
--- ---- sweeping: for now a scrub is one chunk, which is closed at once
+-- ---- sweeping: for now the group settles first, and the scrub is one chunk, which is closed at once
 
 abbrev pub is_close : Done → Bool
 is_close (dones.Close group chunk found snaps) = true
@@ -50,7 +50,7 @@ swept w group = record w { done = dones.Close group (closes w.done + 1) (finding
 abbrev pub after_step : WorldState → Step → WorldState
 after_step w (steps.Basic basic) = after_basic w basic
 after_step w (steps.Settle group) = settled w group w.made.members
-after_step w (steps.Sweep group kind) = swept w group
+after_step w (steps.Sweep group kind) = swept (settled w group w.made.members) group
 
 abbrev pub after_steps : WorldState → List Step → WorldState
 after_steps w [] = w

@@ -258,7 +258,7 @@ impl World {
         Ok(())
     }
 
-    // The one chunk of a scrub is closed.
+    // The one chunk of a scrub is closed, behind the settling.
     #[tactic(auto, using(crate::proofs::Settles::closes_next, crate::proofs::Settles::closes_most))]
     fn sweep(&mut self, group: u32) -> Result<(), AllocError>
         ensures { OnOk result (self.new ≡ steps.swept self.old group) }
@@ -310,7 +310,10 @@ impl World {
         match step {
             Step::Basic { basic } => self.do_basic(basic),
             Step::Settle { group } => self.settle(*group),
-            Step::Sweep { group, .. } => self.sweep(*group),
+            Step::Sweep { group, .. } => {
+                self.settle(*group)?;
+                self.sweep(*group)
+            }
         }
     }
 }

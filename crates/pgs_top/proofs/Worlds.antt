@@ -1,0 +1,49 @@
+-- The steps of a script that was read name what its group has.
+use Rattle.std.proofs.Common.{◌≡◌, ℕ, true, List, [], ◌∷◌, Option, Some, None, sym, ap, ◌∙◌, subst}
+use Rattle.std.specs.List.{AllByRecursion}
+use Rattle.pgs_lines.specs.declared.basic.Basic.TheVariants as basics
+use Rattle.pgs_lines.specs.declared.step.Step.{Step}
+use Rattle.pgs_lines.specs.declared.step.Step.TheVariants as steps
+use Rattle.pgs_order.specs.Order.{step_is_named}
+use Rattle.pgs_order.specs.Ordered.{IsGroup, AreGroups, AreNamed as AreNamedIn}
+use Rattle.pgs_order.specs.declared.declarations.Group.{Group}
+use Rattle.pgs_order.proofs.Keeps.{names_member}
+use Rattle.pgs_world.specs.State.{WorldState, opening}
+use Rattle.pgs_history.specs.declared.made.Made.{Made}
+use Rattle.pgs_world.proofs.Sound.{sound_opening}
+use Rattle.pgs_world.specs.Counts.{IsNamedStep, AreNamed, AreInStep}
+use Rattle.pgs_world.specs.Acknowledged.{AreAcknowledged}
+use Rattle.pgs_world.specs.Sound.{IsSound}
+use Rattle.pgs_top.specs.Histories.{made_of, OfWorld}
+
+step_named : (group : Group) (step : Step) → IsGroup group → step_is_named (group ∷ []) step ≡ true → IsNamedStep (made_of group) step
+step_named group (steps.Basic (basics.Write client serial object op)) is e = tt
+step_named group (steps.Basic (basics.Collect g client serial)) is e = tt
+step_named group (steps.Basic (basics.Pull g osd)) is e = (names_member group g osd is e).1
+step_named group (steps.Basic (basics.Apply g osd)) is e = tt
+step_named group (steps.Basic (basics.Tell g osd)) is e = tt
+step_named group (steps.Basic (basics.Damage g osd object snap damage)) is e = tt
+step_named group (steps.Settle g) is e = tt
+step_named group (steps.Sweep g kind) is e = tt
+
+each_named : (group : Group) (script : List Step) → IsGroup group → AreNamedIn (group ∷ []) script → AreNamed (made_of group) script
+each_named group [] is all = tt
+each_named group (step ∷ script) is all = (step_named group step is all.0, each_named group script is all.1)
+
+pub all_named : (group : Group) (groups : List Group) (script : List Step) → AreGroups (group ∷ groups) → AreNamedIn (group ∷ groups) script → AreNamed (made_of group) script
+all_named group [] script is all = each_named group script is all
+all_named group (other ∷ more) script is all = absurd is
+
+pub acknowledged : (world : Option WorldState) → OfWorld IsSound world → OfWorld AreAcknowledged world
+acknowledged None sound = tt
+acknowledged (Some w) sound = sound.acknowledged
+
+pub in_step : (world : Option WorldState) → OfWorld IsSound world → OfWorld AreInStep world
+in_step None sound = tt
+in_step (Some w) sound = sound.in_step
+
+pub opening_sound : (world : WorldState) (made : Made) → world ≡ opening made → IsSound world
+opening_sound world made is = subst IsSound (sym is) (sound_opening made)
+
+pub opening_named : (world : WorldState) (made wanted : Made) (script : List Step) → world ≡ opening made → made ≡ wanted → AreNamed wanted script → AreNamed world.made script
+opening_named world made wanted script is e named = subst (λ m. AreNamed m script) (sym (ap (λ w. w.made) is ∙ e)) named
