@@ -1,5 +1,5 @@
 -- The bytes that the clean store holds, after one write more.
-use Rattle.std.proofs.Common.{◌≡◌, ℕ, zero, suc, ◌+◌, ◌-◌, ◌<◌, ◌≤◌, Bool, true, false, cond, ◌||◌, List, [], ◌∷◌, ◌++◌, length, Option, Some, None, refl, sym, ap, ◌∙◌, subst, arith, inl, inr, true≢false}
+use Rattle.std.proofs.Common.{◌≡◌, ℕ, ◌+◌, ◌-◌, Bool, true, false, cond, ◌||◌, List, [], ◌∷◌, ◌++◌, Option, Some, None, refl, sym, ap, ◌∙◌, subst, arith, inl, inr}
 use Rattle.std.specs.List.{list_any, sum_by}
 use Rattle.std.proofs.lemmas.List.Sums.{sum_by-cons, sum_by_push}
 use Rattle.std.proofs.lemmas.List.Folds.{list_any-append}
@@ -10,7 +10,7 @@ use Rattle.pgs_name.specs.declared.object_id.TheConstants.{HEAD}
 use Rattle.pgs_name.proofs.Families.{same_family_is, family_is_same}
 use Rattle.pgs_copy.specs.Copies.{after_effects}
 use Rattle.pgs_copy.specs.declared.obj_copy.ObjCopy.{ObjCopy}
-use Rattle.pgs_store.specs.Stores.{Stored, affected, noted, copy_size}
+use Rattle.pgs_store.specs.Stores.{Stored, noted, copy_size}
 use Rattle.pgs_request.specs.declared.op.Op.{Op}
 use Rattle.pgs_request.specs.declared.op.Op.TheVariants.{Full}
 use Rattle.pgs_request.specs.declared.version.Version.{Version}

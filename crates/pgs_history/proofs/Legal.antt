@@ -1,22 +1,16 @@
 -- Each step keeps a history legal; what a legal history says of the log and its members.
-use Rattle.std.proofs.Common.{◌≡◌, ℕ, zero, suc, ◌+◌, ◌<◌, ◌≤◌, nat_lt, nat_le, max, Bool, true, false, cond, List, [], ◌∷◌, length, Option, Some, None, refl, sym, ap, ◌∙◌, subst, arith, inl, inr}
+use Rattle.std.proofs.Common.{◌≡◌, ℕ, nat_lt, Bool, true, false, cond, List, ◌∷◌, refl, arith}
 use Rattle.std.proofs.lemmas.Bool.Decides.{nat_tests}
-use Rattle.pgs_bytes.proofs.Facts.{true_or_false}
 use Rattle.pgs_request.specs.declared.req_id.ReqId.{ReqId}
-use Rattle.pgs_request.specs.declared.version.Version.{Version}
-use Rattle.pgs_request.specs.declared.answers.Declined.{Declined as DeclinedWrite}
-use Rattle.pgs_request.specs.declared.answers.WriteAnswer.{WriteAnswer}
-use Rattle.pgs_request.specs.declared.answers.WriteAnswer.TheVariants.{Declined, Accepted}
 use Rattle.pgs_request.specs.declared.answers.CollectAnswer.{CollectAnswer}
 use Rattle.pgs_request.specs.declared.answers.CollectAnswer.TheVariants.{Unknown, NotYet, Acked}
 use Rattle.pgs_op.specs.declared.write.Write.{Write}
-use Rattle.pgs_history.specs.Log.{log, ids}
 use Rattle.pgs_history.specs.Members.{collected, pulled, told}
-use Rattle.pgs_history.specs.Answers.{declined, answered, next_version, submit_answer, collect_answer, last_number}
+use Rattle.pgs_history.specs.Answers.{collect_answer, last_number}
 use Rattle.pgs_history.specs.After.{after_submit, after_collected, after_collect, after_pull, after_tell}
-use Rattle.pgs_history.specs.Legal.{IsDue, IsLegal, IsPull}
+use Rattle.pgs_history.specs.Legal.{IsLegal}
 use Rattle.pgs_history.specs.declared.event.Event.{Event}
-use Rattle.pgs_history.specs.declared.event.Event.TheVariants.{Submit, Collect, Pull, Tell}
+use Rattle.pgs_history.specs.declared.event.Event.TheVariants.{Collect, Pull, Tell}
 use Rattle.pgs_history.specs.declared.made.Made.{Made}
 
 pub legal_submit : (made : Made) (past : List Event) (write : Write) → IsLegal made past → IsLegal made (after_submit made past write)

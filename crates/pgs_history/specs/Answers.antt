@@ -1,5 +1,5 @@
 -- The answers of a group, by the events before: the first row of a table whose condition holds.
-use Rattle.std.specs.Prelude.{ℕ, ◌+◌, nat_lt, max, List, [], ◌∷◌, length, Option, Some, None, option_map, find, if◌then◌else◌}
+use Rattle.std.specs.Prelude.{ℕ, ◌+◌, nat_lt, max, List, [], ◌∷◌, length, Option, Some, None, option_map, find}
 use Rattle.pgs_name.specs.declared.object_id.TheConstants.{HEAD}
 use Rattle.pgs_request.specs.declared.req_id.ReqId.{ReqId}
 use Rattle.pgs_request.specs.declared.version.Version.{Version}
@@ -14,7 +14,7 @@ use Rattle.pgs_op.specs.Effects.{first, refusal_of}
 use Rattle.pgs_op.specs.declared.write.Write.{Write}
 use Rattle.pgs_history.specs.Log.{clean, held, log, ids, log_bytes}
 use Rattle.pgs_op_log.specs.Logs.{version_in}
-use Rattle.pgs_history.specs.Members.{pulled, told}
+use Rattle.pgs_history.specs.Members.{told}
 use Rattle.pgs_history.specs.declared.event.Event.{Event}
 use Rattle.pgs_history.specs.declared.made.Made.{Made}
 

@@ -1,5 +1,5 @@
 -- What holds of every legal history of a group.
-use Rattle.std.specs.Prelude.{ℕ, ◌≡◌, ◌≤◌, ◌+◌, nat_le, List, [], ◌∷◌, length, Option, Some, None, count_by, if◌then◌else◌}
+use Rattle.std.specs.Prelude.{ℕ, ◌≡◌, nat_le, List, [], ◌∷◌, None, count_by, if◌then◌else◌}
 use Rattle.pgs_request.specs.declared.req_id.ReqId.{ReqId}
 use Rattle.pgs_request.specs.declared.version.Version.{Version}
 use Rattle.pgs_medium.specs.declared.item.Item.{Item}

@@ -1,5 +1,5 @@
 -- How far the members of a group are, by its events, the newest first.
-use Rattle.std.specs.Prelude.{ℕ, ◌==◌, ◌&&◌, ◌||◌, Bool, true, false, max, List, [], ◌∷◌, if◌then◌else◌}
+use Rattle.std.specs.Prelude.{ℕ, ◌==◌, ◌||◌, Bool, false, max, List, [], ◌∷◌, if◌then◌else◌}
 use Rattle.pgs_request.specs.declared.req_id.ReqId.{ReqId}
 use Rattle.pgs_op_log.specs.Logs.{same_id}
 use Rattle.pgs_history.specs.declared.event.Event.{Event}

@@ -1,8 +1,8 @@
 -- An event of one OSD is the newest in its history, and leaves those of the others.
-use Rattle.std.proofs.Common.{◌≡◌, ℕ, ◌==◌, ◌||◌, Bool, true, false, cond, List, [], ◌∷◌, refl, sym, ap, ◌∙◌, arith, inl, inr, map}
+use Rattle.std.proofs.Common.{◌≡◌, ℕ, ◌==◌, ◌||◌, Bool, true, false, cond, List, [], ◌∷◌, refl, sym, ap, ◌∙◌, inl, inr, map}
 use Rattle.std.specs.List.{list_any}
 use Rattle.std.proofs.lemmas.Bool.Decides.{eqb_tells}
-use Rattle.pgs_bytes.proofs.Facts.{true_false, true_or_false}
+use Rattle.pgs_bytes.proofs.Facts.{true_false}
 use Rattle.pgs_shard.specs.declared.event.Event.{Event}
 use Rattle.pgs_shards.specs.Members.{Member, beginning, past_in, with_event}
 

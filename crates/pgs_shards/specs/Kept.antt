@@ -1,5 +1,5 @@
 -- How the shards in memory are seen.
-use Rattle.std.specs.Prelude.{ℕ, ◌≡◌, ◌==◌, Bool, List, [], Some, map}
+use Rattle.std.specs.Prelude.{ℕ, ◌≡◌, ◌==◌, Bool, List, [], Some}
 use Rattle.std.specs.List.{AllByRecursion}
 use Rattle.pgs_medium.specs.Ram.{device_of}
 use Rattle.pgs_medium.specs.declared.ram_medium.RamMedium.{RamMedium}

@@ -1,6 +1,5 @@
 -- The steps of a script that was read name what its group has.
-use Rattle.std.proofs.Common.{◌≡◌, ℕ, true, List, [], ◌∷◌, Option, Some, None, sym, ap, ◌∙◌, subst}
-use Rattle.std.specs.List.{AllByRecursion}
+use Rattle.std.proofs.Common.{◌≡◌, true, List, [], ◌∷◌, Option, Some, None, sym, ap, ◌∙◌, subst}
 use Rattle.pgs_lines.specs.declared.basic.Basic.TheVariants as basics
 use Rattle.pgs_lines.specs.declared.step.Step.{Step}
 use Rattle.pgs_lines.specs.declared.step.Step.TheVariants as steps
@@ -10,7 +9,6 @@ use Rattle.pgs_order.specs.declared.declarations.Group.{Group}
 use Rattle.pgs_order.proofs.Keeps.{names_member}
 use Rattle.pgs_world.specs.State.{WorldState, opening}
 use Rattle.pgs_history.specs.declared.made.Made.{Made}
-use Rattle.pgs_world.proofs.Sound.{sound_opening}
 use Rattle.pgs_world.specs.Counts.{IsNamedStep, AreNamed, AreInStep}
 use Rattle.pgs_world.specs.Acknowledged.{AreAcknowledged}
 use Rattle.pgs_world.specs.Sound.{IsSound}
@@ -41,9 +39,6 @@ acknowledged (Some w) sound = sound.acknowledged
 pub in_step : (world : Option WorldState) → OfWorld IsSound world → OfWorld AreInStep world
 in_step None sound = tt
 in_step (Some w) sound = sound.in_step
-
-pub opening_sound : (world : WorldState) (made : Made) → world ≡ opening made → IsSound world
-opening_sound world made is = subst IsSound (sym is) (sound_opening made)
 
 pub opening_named : (world : WorldState) (made wanted : Made) (script : List Step) → world ≡ opening made → made ≡ wanted → AreNamed wanted script → AreNamed world.made script
 opening_named world made wanted script is e named = subst (λ m. AreNamed m script) (sym (ap (λ w. w.made) is ∙ e)) named

@@ -1,5 +1,5 @@
 -- What happens in a script.
-use Rattle.std.specs.Prelude.{ℕ, List, [], ◌∷◌, Option, Some, None}
+use Rattle.std.specs.Prelude.{List, [], ◌∷◌, Option, Some, None}
 use Rattle.pgs_lines.specs.declared.step.Step.{Step}
 use Rattle.pgs_order.specs.Order.{nothing_declared}
 use Rattle.pgs_order.specs.declared.declarations.Group.{Group}

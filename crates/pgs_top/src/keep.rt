@@ -39,7 +39,6 @@ fn made_of(alloc: Global, group: &Group) -> Result<Made, AllocError>
 }
 
 // The world of a declared group after all steps.
-#[tactic(auto, using(crate::proofs::Worlds::opening_sound, crate::proofs::Worlds::opening_named))]
 fn world_of(alloc: Global, group: &Group, script: &[Step]) -> Result<World, AllocError>
     requires { AreNamed (histories.made_of group.now) script.now }
     ensures world { IfOk result (λ w. w ≡ after_steps (opening (histories.made_of group.now)) script.now) }

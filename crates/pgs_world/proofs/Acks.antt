@@ -1,8 +1,8 @@
 -- An acknowledgement holds when it is answered, and ever after.
-use Rattle.std.proofs.Common.{◌≡◌, ℕ, zero, suc, ◌+◌, ◌-◌, ◌<◌, ◌≤◌, ◌==◌, ◌||◌, nat_lt, max, Bool, true, false, cond, List, [], ◌∷◌, length, Option, Some, None, find, refl, sym, ap, ◌∙◌, subst, arith, inl, inr}
+use Rattle.std.proofs.Common.{◌≡◌, ℕ, ◌+◌, ◌≤◌, ◌==◌, ◌||◌, nat_lt, max, Bool, true, false, cond, List, [], ◌∷◌, Option, Some, None, find, refl, sym, ap, ◌∙◌, subst, arith}
 use Rattle.std.specs.List.{AllByRecursion, list_any}
-use Rattle.std.proofs.lemmas.Bool.Decides.{nat_tests, eqb_tells}
-use Rattle.pgs_bytes.proofs.Facts.{true_false, true_or_false, none_some, some_none, some_same}
+use Rattle.std.proofs.lemmas.Bool.Decides.{nat_tests}
+use Rattle.pgs_bytes.proofs.Facts.{none_some, some_none}
 use Rattle.pgs_request.specs.declared.req_id.ReqId.{ReqId}
 use Rattle.pgs_request.specs.declared.version.Version.{Version}
 use Rattle.pgs_request.specs.declared.op.Op.{Op}
@@ -15,12 +15,11 @@ use Rattle.pgs_name.specs.declared.family.Family.{Family}
 use Rattle.pgs_lines.specs.declared.object.Object.{Object}
 use Rattle.pgs_op.specs.declared.write.Write.{Write}
 use Rattle.pgs_op_log.specs.Logs.{same_id, version_in}
-use Rattle.pgs_history.specs.Log.{log, ids}
+use Rattle.pgs_history.specs.Log.{ids}
 use Rattle.pgs_history.specs.Members.{pulled, told, collected}
-use Rattle.pgs_history.specs.Answers.{submit_answer, behind, waits_for, collect_found, collect_answer, last_number, tell_answer}
+use Rattle.pgs_history.specs.Answers.{submit_answer, behind, waits_for, collect_found, collect_answer, last_number}
 use Rattle.pgs_history.specs.After.{after_collected}
 use Rattle.pgs_history.specs.Legal.{IsLegal}
-use Rattle.pgs_history.specs.Facts.{times}
 use Rattle.pgs_history.specs.declared.event.Event.{Event}
 use Rattle.pgs_history.specs.declared.event.Event.TheVariants.{Submit, Collect, Pull, Tell}
 use Rattle.pgs_history.specs.declared.made.Made.{Made}
@@ -29,13 +28,12 @@ use Rattle.pgs_lines.specs.declared.done.Done.{Done}
 use Rattle.pgs_lines.specs.declared.done.Done.TheVariants as dones
 use Rattle.pgs_shard.specs.Stores.{applied}
 use Rattle.pgs_shard.specs.declared.event.Event.{Event as ShardEvent}
-use Rattle.pgs_shard.specs.declared.event.Event.TheVariants.{Fed, Applied, Damaged}
+use Rattle.pgs_shard.specs.declared.event.Event.TheVariants.{Applied, Damaged}
 use Rattle.pgs_shards.specs.Members.{Member, past_in, with_event, waits}
-use Rattle.pgs_shards.proofs.Members.{has, past_in_here, past_in_other}
 use Rattle.pgs_world.specs.State.{WorldState}
-use Rattle.pgs_world.specs.Basics.{id_of, write_of, given, applied_by, after_collecting, after_write, after_pulling, after_telling, after_applying, after_damaging}
-use Rattle.pgs_world.specs.Counts.{is_member, IsInStep, AreInStep}
-use Rattle.pgs_world.specs.Acknowledged.{IsAcknowledged, StillHolds, AreAcknowledged}
+use Rattle.pgs_world.specs.Basics.{id_of, write_of, given, applied_by, after_collecting, after_write, after_pulling, after_telling, after_applying}
+use Rattle.pgs_world.specs.Counts.{AreInStep}
+use Rattle.pgs_world.specs.Acknowledged.{IsAcknowledged, StillHolds}
 
 -- ---- lists
 

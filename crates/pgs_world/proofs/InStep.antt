@@ -1,8 +1,7 @@
 -- Every step keeps each member in step with its group.
-use Rattle.std.proofs.Common.{◌≡◌, ℕ, zero, suc, ◌+◌, ◌-◌, ◌<◌, ◌≤◌, ◌==◌, nat_lt, max, Bool, true, false, cond, List, [], ◌∷◌, ◌++◌, length, reverse, map, refl, sym, ap, ◌∙◌, subst, arith, inl, inr}
+use Rattle.std.proofs.Common.{◌≡◌, ℕ, suc, ◌+◌, ◌<◌, ◌≤◌, ◌==◌, nat_lt, max, Bool, true, false, cond, List, [], ◌∷◌, length, reverse, refl, sym, ap, ◌∙◌, subst, arith, inl, inr}
 use Rattle.std.specs.List.{list_any}
 use Rattle.std.proofs.lemmas.Bool.Decides.{nat_tests, eqb_tells}
-use Rattle.pgs_bytes.proofs.Facts.{true_false, true_or_false}
 use Rattle.pgs_request.specs.declared.req_id.ReqId.{ReqId}
 use Rattle.pgs_request.specs.declared.op.Op.{Op}
 use Rattle.pgs_request.specs.declared.answers.WriteAnswer.{WriteAnswer}
@@ -12,12 +11,11 @@ use Rattle.pgs_request.specs.declared.answers.CollectAnswer.TheVariants.{Unknown
 use Rattle.pgs_copy.specs.declared.damage.Damage.{Damage as CopyDamage}
 use Rattle.pgs_name.specs.declared.family.Family.{Family}
 use Rattle.pgs_op.specs.declared.write.Write.{Write}
-use Rattle.pgs_medium.specs.declared.item.Item.{Item}
 use Rattle.pgs_op_log.specs.Logs.{newer}
 use Rattle.pgs_history.specs.Log.{log, item_of}
 use Rattle.pgs_history.specs.Members.{pulled, told, collected}
-use Rattle.pgs_history.specs.Answers.{submit_answer, collect_answer, last_number, tell_answer}
-use Rattle.pgs_history.specs.After.{after_submit, after_collected, after_collect, after_pull, after_tell}
+use Rattle.pgs_history.specs.Answers.{submit_answer, collect_answer, last_number}
+use Rattle.pgs_history.specs.After.{after_collected}
 use Rattle.pgs_history.specs.Legal.{IsLegal}
 use Rattle.pgs_history.specs.Facts.{upto}
 use Rattle.pgs_history.specs.declared.event.Event.{Event}
@@ -33,12 +31,12 @@ use Rattle.pgs_shard.specs.Feeds.{fed}
 use Rattle.pgs_shard.specs.Stores.{applied}
 use Rattle.pgs_shard.specs.declared.event.Event.{Event as ShardEvent}
 use Rattle.pgs_shard.specs.declared.event.Event.TheVariants.{Fed, Applied, Damaged}
-use Rattle.pgs_shards.specs.Members.{Member, past_in, with_event, waits, with_applied}
+use Rattle.pgs_shards.specs.Members.{past_in, with_event, waits}
 use Rattle.pgs_shards.proofs.Members.{has, past_in_here, past_in_other, osds_kept, osds_beginning, past_beginning}
 use Rattle.pgs_world.specs.State.{WorldState, opening}
 use Rattle.pgs_world.specs.Basics.{family_of, snap_of, damage_of, write_of, id_of, given, applied_by, after_write, after_collecting, after_pulling, after_telling, after_applying, after_damaging}
 use Rattle.pgs_world.specs.Counts.{is_member, IsInStep, AreInStep}
-use Rattle.pgs_world.proofs.Items.{upto_over, upto_all, length_upto, next_newer, fed_all}
+use Rattle.pgs_world.proofs.Items.{upto_over, length_upto, next_newer, fed_all}
 
 -- ---- one member, after one event
 

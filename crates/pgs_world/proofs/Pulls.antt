@@ -1,5 +1,5 @@
 -- What a member pulls follows on what it was fed.
-use Rattle.std.proofs.Common.{◌≡◌, ℕ, ◌≤◌, true, List, length, reverse, ap, ◌∙◌, sym, arith}
+use Rattle.std.proofs.Common.{◌≡◌, ℕ, ◌≤◌, true, length, reverse, ap, ◌∙◌, arith}
 use Rattle.pgs_op_log.specs.Logs.{newer}
 use Rattle.pgs_history.specs.Log.{log}
 use Rattle.pgs_history.specs.Members.{pulled}

@@ -1,12 +1,8 @@
 -- Every step keeps what is sound.
 use Rattle.std.proofs.Common.{◌≡◌, ℕ, zero, suc, List, [], ◌∷◌, refl, sym, subst}
 use Rattle.std.specs.List.{AllByRecursion}
-use Rattle.pgs_request.specs.declared.op.Op.{Op}
 use Rattle.pgs_history.specs.Answers.{collect_answer}
 use Rattle.pgs_history.specs.declared.made.Made.{Made}
-use Rattle.pgs_lines.specs.declared.object.Object.{Object}
-use Rattle.pgs_lines.specs.declared.snap.Snap.{Snap}
-use Rattle.pgs_lines.specs.declared.damage.Damage.{Damage}
 use Rattle.pgs_lines.specs.declared.basic.Basic.{Basic}
 use Rattle.pgs_lines.specs.declared.basic.Basic.TheVariants as basics
 use Rattle.pgs_lines.specs.declared.step.Step.{Step}
@@ -80,3 +76,6 @@ sound_steps w (step ∷ script) s = sound_steps (after_step w step) script (soun
 
 pub sound_opening : (made : Made) → IsSound (opening made)
 sound_opening made = record { in_step = in_opening made; acknowledged = tt }
+
+pub opening_sound : (world : WorldState) (made : Made) → world ≡ opening made → IsSound world
+opening_sound world made is = subst IsSound (sym is) (sound_opening made)

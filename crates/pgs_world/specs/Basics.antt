@@ -1,5 +1,5 @@
 -- What a single step does, and the answer that is kept with it.
-use Rattle.std.specs.Prelude.{ℕ, ◌+◌, nat_lt, List, ◌∷◌, reverse, if◌then◌else◌}
+use Rattle.std.specs.Prelude.{ℕ, nat_lt, ◌∷◌, reverse, if◌then◌else◌}
 use Rattle.pgs_lines.specs.declared.object.Object.{Object}
 use Rattle.pgs_lines.specs.declared.snap.Snap.{Snap}
 use Rattle.pgs_lines.specs.declared.snap.Snap.TheVariants.{Head}
@@ -28,7 +28,7 @@ use Rattle.pgs_shard.specs.declared.applied.Applied.{Applied}
 use Rattle.pgs_shard.specs.declared.applied.Applied.TheVariants as answers
 use Rattle.pgs_shard.specs.declared.event.Event.{Event as ShardEvent}
 use Rattle.pgs_shard.specs.declared.event.Event.TheVariants.{Fed, Damaged}
-use Rattle.pgs_shards.specs.Members.{Member, past_in, with_event, with_applied, apply_answer}
+use Rattle.pgs_shards.specs.Members.{past_in, with_event, with_applied, apply_answer}
 use Rattle.pgs_world.specs.State.{WorldState}
 
 -- ---- what the words of a line name

@@ -15,7 +15,7 @@ use Rattle.pgs_shard.specs.Feeds.{fed}
 use Rattle.pgs_shard.specs.Stores.{applied}
 use Rattle.pgs_shard.specs.Legal.{IsLegal as IsLegalShard}
 use Rattle.pgs_shard.specs.declared.event.Event.{Event as ShardEvent}
-use Rattle.pgs_shards.specs.Members.{Member, past_in}
+use Rattle.pgs_shards.specs.Members.{past_in}
 use Rattle.pgs_world.specs.State.{WorldState}
 
 -- an OSD is a member

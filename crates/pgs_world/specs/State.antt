@@ -1,5 +1,5 @@
 -- What a world is seen as.
-use Rattle.std.specs.Prelude.{ℕ, List, [], ◌∷◌}
+use Rattle.std.specs.Prelude.{List, []}
 use Rattle.pgs_lines.specs.declared.done.Done.{Done}
 use Rattle.pgs_history.specs.declared.event.Event.{Event}
 use Rattle.pgs_history.specs.declared.made.Made.{Made}

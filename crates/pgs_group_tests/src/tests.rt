@@ -1,0 +1,5 @@
+//! Each file tests one topic.
+mod groups;
+mod making;
+mod shards;
+mod worlds;

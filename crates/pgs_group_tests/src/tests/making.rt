@@ -1,0 +1,44 @@
+use pgs_bytes::Bytes;
+use pgs_history::Made;
+use pgs_name::Family;
+use pgs_op::Write;
+use pgs_request::{Op, Payload, ReqId};
+use sqlite_items::Items;
+use std::alloc::{AllocError, Global};
+
+// A group of the OSDs 2 and 0.
+pub fn made(alloc: Global) -> Result<Made, AllocError> {
+    let mut members = Items::new(alloc);
+    members.push(2)?;
+    members.push(0)?;
+    Ok(Made {
+        number: 0,
+        epoch: 4,
+        members,
+    })
+}
+
+pub fn family(alloc: Global) -> Result<Family, AllocError> {
+    let name = Bytes::from_slice(alloc, b"a")?;
+    Ok(Family {
+        space: Bytes::new(alloc),
+        key: Bytes::new(alloc),
+        name,
+    })
+}
+
+pub const REQUEST: ReqId = ReqId {
+    client: 1,
+    serial: 7,
+};
+
+// A write of three bytes.
+pub fn write(alloc: Global) -> Result<Write, AllocError> {
+    let family = family(alloc)?;
+    let payload = Payload::Fill { count: 3, byte: 97 };
+    Ok(Write {
+        id: REQUEST,
+        family,
+        op: Op::Full { payload },
+    })
+}
