@@ -46,10 +46,16 @@ impl Model for World {
 
 impl World {
     /// Before the first step.
-    #[tactic(auto, using(crate::proofs::Sound::opening_sound))]
     pub fn new(alloc: Global, made: Made) -> Result<World, AllocError>
         ensures world { IfOk result (λ w. w ≡ opening made) }
         ensures sound { IfOk result (λ w. IsSound w) }
+    {
+        let world = World::begin(alloc, made)?;
+        Ok(world)
+    }
+
+    fn begin(alloc: Global, made: Made) -> Result<World, AllocError>
+        ensures { IfOk result (λ w. w ≡ opening made) }
     {
         let shards = Shards::new(alloc, made.members.as_slice())?;
         Ok(World {
