@@ -3,3 +3,4 @@ pub mod Families
 pub mod Ordered
 pub mod Ends
 pub mod Tiles
+pub mod Rows

@@ -2,3 +2,4 @@
 pub mod Families
 pub mod Positions
 pub mod Ends
+pub mod Rows

@@ -1,7 +1,7 @@
 -- Positions, and their order.
-use Rattle.std.specs.Prelude.{Bool, nat_eq, ◌&&◌}
+use Rattle.std.specs.Prelude.{Bool, true, nat_eq, ◌≡◌, ◌&&◌}
 use Rattle.std.specs.declared.cmp.Ordering.{Ordering}
-use Rattle.std.specs.Ordering.{nat_cmp, ordering_then, is_lt}
+use Rattle.std.specs.Ordering.{nat_cmp, ordering_then, is_lt, is_le}
 use Rattle.pgs_name.specs.Families.{same_family}
 use Rattle.pgs_name.specs.declared.family.Family.{Family}
 use Rattle.pgs_name.specs.declared.object_id.ObjectId.{ObjectId}
@@ -24,6 +24,12 @@ is_before a b = is_lt (position_cmp a b)
 -- two positions have one family and one snap
 abbrev pub same_position : ObjectId → ObjectId → Bool
 same_position a b = same_family (family_of_id a) (family_of_id b) && nat_eq a.snap b.snap
+
+-- a position that stands between this one and another of its family is of that family too
+abbrev pub StandsTogether : ObjectId → ObjectId → Type 0
+StandsTogether a b =
+    (c : ObjectId) → is_le (position_cmp a b) ≡ true → is_le (position_cmp b c) ≡ true → same_family (family_of_id a) (family_of_id c) ≡ true
+    → same_family (family_of_id a) (family_of_id b) ≡ true
 
 -- a range touches a position where it holds its family
 abbrev pub touches : FamilyRange → ObjectId → Bool

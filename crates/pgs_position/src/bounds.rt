@@ -3,7 +3,9 @@ ghost use Rattle.std.specs.Cmp.{IsTotalOrder};
 ghost use Rattle.pgs_range.specs.declared.bound.Bound.{Bound};
 ghost use Rattle.pgs_range.specs.declared.bound.Bound.TheVariants.{Min, At, Max};
 ghost use Rattle.pgs_position.specs.Ends.{bound_cmp, is_upto, is_within, AreTiles};
+ghost use Rattle.pgs_position.specs.Positions.{family_of_id};
 
+use pgs_name::ObjectId;
 use pgs_range::{Bound, FamilyRange, compare};
 use std::alloc::AllocError;
 use std::cmp::Ordering;
@@ -41,6 +43,14 @@ fn by_kind(a: &Bound, b: &Bound) -> Ordering
             Bound::Max => Ordering::Equal,
         },
     }
+}
+
+/// The bound at a position's family.
+pub fn bound_at(id: &ObjectId) -> Result<Bound, AllocError>
+    ensures { IfOk result (λ bound. bound ≡ At (family_of_id id.now)) }
+{
+    let family = id.family()?;
+    Ok(Bound::At { family })
 }
 
 /// Whether a bound lies at the ends of a range or between them.

@@ -6,6 +6,6 @@ mod placing;
 mod positions;
 mod touching;
 
-pub use bounds::{compare_bounds, is_within, split};
-pub use positions::{compare, is_before};
+pub use bounds::{bound_at, compare_bounds, is_within, split};
+pub use positions::{compare, is_before, is_same_family};
 pub use touching::touches;
