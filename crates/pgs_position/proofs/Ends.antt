@@ -4,14 +4,14 @@ use Rattle.std.specs.Cmp.{IsTotalOrder, nat_cmp_total, on_total, then_total}
 use Rattle.std.specs.Cmp.Lexicographic.{lists_total, slice_cmp}
 use Rattle.std.specs.declared.cmp.Ordering.{Ordering}
 use Rattle.std.specs.declared.cmp.Ordering.TheVariants.{Less, Equal, Greater}
-use Rattle.std.specs.Ordering.{is_le, is_lt, nat_cmp, ordering_then}
+use Rattle.std.specs.Ordering.{is_eq, is_le, is_lt, nat_cmp, ordering_then}
 use Rattle.pgs_name.specs.declared.family.Family.{Family}
 use Rattle.pgs_range.specs.Order.{family_cmp}
 use Rattle.pgs_range.specs.Ranges.{is_at_most, is_above}
 use Rattle.pgs_range.specs.declared.bound.Bound.{Bound}
 use Rattle.pgs_range.specs.declared.bound.Bound.TheVariants.{Min, At, Max}
-use Rattle.pgs_position.specs.Ends.{bound_cmp, is_upto}
-use Rattle.pgs_position.proofs.Families.{family_total}
+use Rattle.pgs_position.specs.Ends.{bound_cmp, same_bound, is_upto}
+use Rattle.pgs_position.proofs.Families.{family_total, family_alike}
 
 -- a bound as a number, and the families beside it
 rank : Bound → ℕ
@@ -54,6 +54,18 @@ greatest Min = refl
 greatest (At f) = refl
 greatest Max = refl
 
+-- the order answers `Equal` exactly where both are of one kind, and at one place
+pub bound_same : (a b : Bound) → is_eq (bound_cmp a b) ≡ same_bound a b
+bound_same Min Min = refl
+bound_same Min (At g) = refl
+bound_same Min Max = refl
+bound_same (At f) Min = refl
+bound_same (At f) (At g) = family_alike f g
+bound_same (At f) Max = refl
+bound_same Max Min = refl
+bound_same Max (At g) = refl
+bound_same Max Max = refl
+
 -- a bound is at a family or below it, and above it, as the family's own bound stands to it
 pub at_most_is : (b : Bound) (f : Family) → is_at_most b f ≡ is_le (bound_cmp b (At f))
 at_most_is Min f = refl
@@ -65,4 +77,4 @@ above_is Min f = refl
 above_is (At g) f = refl
 above_is Max f = refl
 
-pub ruleset ends = (bound_total, least, greatest)
+pub ruleset ends = (bound_total, bound_same, least, greatest)

@@ -13,7 +13,7 @@ use Rattle.pgs_range.specs.declared.bound.Bound.{Bound}
 use Rattle.pgs_range.specs.declared.bound.Bound.TheVariants.{At}
 use Rattle.pgs_range.specs.declared.family_range.FamilyRange.{FamilyRange}
 use Rattle.pgs_position.specs.Ends.{bound_cmp, is_upto, is_within, AreTiles}
-use Rattle.pgs_position.specs.Positions.{family_of_id, position_cmp, touches}
+use Rattle.pgs_position.specs.Positions.{family_of_id, HoldsBetween}
 use Rattle.pgs_position.proofs.Ordered.{by_family}
 use Rattle.pgs_position.proofs.Ends.{bound_total, at_most_is, above_is}
 
@@ -73,9 +73,8 @@ held_between range f g h p q first last =
     (above_down range.to g h q (both (is_at_most range.from h) (is_above range.to h) last).1)
 
 -- and touches what stands between two positions that it touches
-pub touched_between : (range : FamilyRange) (a b c : ObjectId) → is_le (position_cmp a b) ≡ true → is_le (position_cmp b c) ≡ true
-    → touches range a ≡ true → touches range c ≡ true → touches range b ≡ true
-touched_between range a b c p q = held_between range (family_of_id a) (family_of_id b) (family_of_id c) (by_family a b p) (by_family b c q)
+pub touched_between : (range : FamilyRange) (b : ObjectId) → HoldsBetween range b
+touched_between range b a c p q = held_between range (family_of_id a) (family_of_id b) (family_of_id c) (by_family a b p) (by_family b c q)
 
 -- tests that follow from one another, the last from the second and the second from the first
 in_one : (p q r : Bool) → (q ≡ true → p ≡ true) → (r ≡ true → q ≡ true) → (p && not r) ≡ ((p && not q) || (q && not r))

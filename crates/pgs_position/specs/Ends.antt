@@ -1,5 +1,5 @@
 -- The order of bounds, and ranges that lie beside one another.
-use Rattle.std.specs.Prelude.{Bool, false, ◌≡◌, ◌&&◌, ◌||◌}
+use Rattle.std.specs.Prelude.{Bool, true, false, ◌≡◌, ◌&&◌, ◌||◌}
 use Rattle.std.specs.declared.cmp.Ordering.{Ordering}
 use Rattle.std.specs.declared.cmp.Ordering.TheVariants.{Less, Equal, Greater}
 use Rattle.std.specs.Ordering.{is_le}
@@ -9,6 +9,7 @@ use Rattle.pgs_range.specs.Ranges.{in_range}
 use Rattle.pgs_range.specs.declared.bound.Bound.{Bound}
 use Rattle.pgs_range.specs.declared.bound.Bound.TheVariants.{Min, At, Max}
 use Rattle.pgs_range.specs.declared.family_range.FamilyRange.{FamilyRange}
+use Rattle.pgs_position.specs.Families.{is_alike}
 
 -- the least bound first, the greatest last, and between them by their families
 abbrev pub bound_cmp : Bound → Bound → Ordering
@@ -21,6 +22,18 @@ bound_cmp (At f) Max = Less
 bound_cmp Max Min = Greater
 bound_cmp Max (At g) = Greater
 bound_cmp Max Max = Equal
+
+-- two bounds are of one kind, and at one place
+abbrev pub same_bound : Bound → Bound → Bool
+same_bound Min Min = true
+same_bound Min (At g) = false
+same_bound Min Max = false
+same_bound (At f) Min = false
+same_bound (At f) (At g) = is_alike f g
+same_bound (At f) Max = false
+same_bound Max Min = false
+same_bound Max (At g) = false
+same_bound Max Max = true
 
 -- a bound isn't above another
 abbrev pub is_upto : Bound → Bound → Bool

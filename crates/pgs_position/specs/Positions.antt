@@ -34,3 +34,8 @@ StandsTogether a b =
 -- a range touches a position where it holds its family
 abbrev pub touches : FamilyRange → ObjectId → Bool
 touches range id = in_range range (family_of_id id)
+
+-- a range that touches positions on both sides of one touches it too
+abbrev pub HoldsBetween : FamilyRange → ObjectId → Type 0
+HoldsBetween range b =
+    (a c : ObjectId) → is_le (position_cmp a b) ≡ true → is_le (position_cmp b c) ≡ true → touches range a ≡ true → touches range c ≡ true → touches range b ≡ true

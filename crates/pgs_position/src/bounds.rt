@@ -1,8 +1,9 @@
 ghost use Rattle.std.specs.Prelude.{◌≡◌, IsTrue, IfOk};
 ghost use Rattle.std.specs.Cmp.{IsTotalOrder};
+ghost use Rattle.std.specs.Ordering.{is_eq};
 ghost use Rattle.pgs_range.specs.declared.bound.Bound.{Bound};
 ghost use Rattle.pgs_range.specs.declared.bound.Bound.TheVariants.{Min, At, Max};
-ghost use Rattle.pgs_position.specs.Ends.{bound_cmp, is_upto, is_within, AreTiles};
+ghost use Rattle.pgs_position.specs.Ends.{bound_cmp, same_bound, is_upto, is_within, AreTiles};
 ghost use Rattle.pgs_position.specs.Positions.{family_of_id};
 
 use pgs_name::ObjectId;
@@ -17,6 +18,7 @@ pub fn compare_bounds(a: &Bound, b: &Bound) -> Ordering
 
     // The order, and its ends.
     ensures total { IsTotalOrder bound_cmp }
+    ensures same { is_eq result ≡ same_bound a.now b.now }
     ensures least { IsTrue (is_upto Min a.now) }
     ensures greatest { IsTrue (is_upto a.now Max) }
 {

@@ -2,7 +2,7 @@ ghost use Rattle.std.specs.Prelude.{◌≡◌};
 ghost use Rattle.std.specs.Ordering.{is_le};
 ghost use Rattle.pgs_range.specs.Order.{effective_key, family_cmp};
 ghost use Rattle.pgs_range.specs.Ranges.{is_at_most, is_above};
-ghost use Rattle.pgs_position.specs.Positions.{family_of_id, touches};
+ghost use Rattle.pgs_position.specs.Positions.{family_of_id, touches, HoldsBetween};
 
 use crate::placing::{key, place};
 use pgs_name::{Family, ObjectId};
@@ -10,8 +10,12 @@ use pgs_range::{Bound, FamilyRange, hash, reverse_bits};
 use std::cmp::Ordering;
 
 /// Whether a range holds a position's family. It takes no memory.
+#[tactic(auto, using(crate::proofs::Tiles::touched_between))]
 pub fn touches(range: &FamilyRange, id: &ObjectId) -> bool
-    ensures { result ≡ touches range.now id.now }
+    ensures told { result ≡ touches range.now id.now }
+
+    // What a range touches stands together.
+    ensures between { HoldsBetween range.now id.now }
 {
     is_at_most(&range.from, id) && is_above(&range.to, id)
 }
