@@ -30,7 +30,7 @@ fn is_at_most(bound: &Bound, id: &ObjectId) -> bool
     }
 }
 
-// Whether a position's family is a family or stands behind it.
+// Whether a position's family isn't below another.
 fn is_from(id: &ObjectId, family: &Family) -> bool
     ensures { result ≡ is_le (family_cmp family.now (family_of_id id.now)) }
 {
