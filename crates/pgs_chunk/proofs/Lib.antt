@@ -1,0 +1,7 @@
+-- Laws of limits and of where a chunk ends.
+pub mod Halves
+pub mod Families
+pub mod Lists
+pub mod Cuts
+pub mod Starts
+pub mod Ends

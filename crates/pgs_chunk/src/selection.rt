@@ -1,0 +1,22 @@
+ghost use Rattle.std.specs.Prelude.{IfOk};
+ghost use Rattle.pgs_chunk.specs.Positions.{Ascends};
+ghost use Rattle.pgs_chunk.specs.Selection.{IsSelected};
+
+use crate::ending::end_of;
+use crate::starting::from_start;
+use pgs_name::ObjectId;
+use pgs_range::{Bound, FamilyRange};
+use std::alloc::AllocError;
+
+/// The families of a chunk that begins at a bound: as many of the leading families as have together at most so many of the
+/// listed positions, and at least one.
+#[tactic(auto, using(crate::proofs::Starts::left_ascends))]
+pub fn select(listed: &[ObjectId], start: &Bound, limit: u32) -> Result<FamilyRange, AllocError>
+    requires ascends { Ascends listed.now }
+    ensures { IfOk result (λ range. IsSelected limit listed.now start.now range) }
+{
+    let rest = from_start(listed, start)?;
+    let to = end_of(rest, limit)?;
+    let from = start.clone()?;
+    Ok(FamilyRange { from, to })
+}
