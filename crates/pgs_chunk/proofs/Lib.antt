@@ -5,3 +5,4 @@ pub mod Lists
 pub mod Cuts
 pub mod Starts
 pub mod Ends
+pub mod Above

@@ -44,6 +44,15 @@ pub all_filter : {X : Type 0} (P : X → Type 0) (p : X → Bool) (xs : List X) 
 all_filter P p [] h = tt
 all_filter P p (x ∷ xs) h = all_kept_or_not P (p x) x (filter p xs) h.0 (all_filter P p xs h.1)
 
+passing_or_not : {X : Type 0} (p : X → Bool) (x : X) (xs : List X) (b : Bool) → p x ≡ b → AllByRecursion (λ y. p y ≡ true) xs
+    → AllByRecursion (λ y. p y ≡ true) (cond b (x ∷ xs) xs)
+passing_or_not p x xs true e h = (e, h)
+passing_or_not p x xs false e h = h
+
+pub all_filtered : {X : Type 0} (p : X → Bool) (xs : List X) → AllByRecursion (λ x. p x ≡ true) (filter p xs)
+all_filtered p [] = tt
+all_filtered p (x ∷ xs) = passing_or_not p x (filter p xs) (p x) refl (all_filtered p xs)
+
 pub list_all_is : {X : Type 0} (p : X → Bool) (xs : List X) → AllByRecursion (λ x. p x ≡ true) xs → list_all p xs ≡ true
 list_all_is p [] h = refl
 list_all_is p (x ∷ xs) h = joined (p x) (list_all p xs) h.0 (list_all_is p xs h.1)

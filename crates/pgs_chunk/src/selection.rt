@@ -1,6 +1,7 @@
-ghost use Rattle.std.specs.Prelude.{IfOk};
+ghost use Rattle.std.specs.Prelude.{◌≡◌, false, IfOk};
 ghost use Rattle.pgs_chunk.specs.Positions.{Ascends};
-ghost use Rattle.pgs_chunk.specs.Selection.{IsSelected};
+ghost use Rattle.pgs_chunk.specs.Selection.{IsSelected, is_upto};
+ghost use Rattle.pgs_range.specs.declared.bound.Bound.TheVariants.{Max};
 
 use crate::ending::end_of;
 use crate::starting::from_start;
@@ -10,8 +11,19 @@ use std::alloc::AllocError;
 
 /// The families of a chunk that begins at a bound: as many of the leading families as have together at most so many of the
 /// listed positions, and at least one.
-#[tactic(auto, using(crate::proofs::Starts::left_ascends))]
+#[tactic(auto, using(crate::proofs::Above::ends_above))]
 pub fn select(listed: &[ObjectId], start: &Bound, limit: u32) -> Result<FamilyRange, AllocError>
+    requires ascends { Ascends listed.now }
+    ensures selected { IfOk result (λ range. IsSelected limit listed.now start.now range) }
+
+    // So the next chunk begins above this one.
+    ensures above { is_upto Max start.now ≡ false → IfOk result (λ range. is_upto range.to start.now ≡ false) }
+{
+    selected(listed, start, limit)
+}
+
+#[tactic(auto, using(crate::proofs::Starts::left_ascends))]
+fn selected(listed: &[ObjectId], start: &Bound, limit: u32) -> Result<FamilyRange, AllocError>
     requires ascends { Ascends listed.now }
     ensures { IfOk result (λ range. IsSelected limit listed.now start.now range) }
 {
