@@ -1,5 +1,5 @@
 -- A chunk ends above its start.
-use Rattle.std.proofs.Common.{ℕ, ◌≡◌, ◌⊎◌, inl, inr, Bool, true, false, cond, not, ◌&&◌, ◌||◌, List, [], ◌∷◌, refl, sym, ap, ◌∙◌, subst}
+use Rattle.std.proofs.Common.{ℕ, ◌≡◌, inl, inr, true, false, not, ◌||◌, List, [], ◌∷◌, refl, sym, ap, ◌∙◌}
 use Rattle.std.specs.BTreeMap.Comparable.{le_lt_trans}
 use Rattle.std.specs.List.{AllByRecursion, list_any}
 use Rattle.std.specs.declared.cmp.Ordering.{Ordering}
@@ -18,8 +18,8 @@ use Rattle.pgs_range.specs.declared.bound.Bound.{Bound}
 use Rattle.pgs_range.specs.declared.bound.Bound.TheVariants.{Min, At, Max}
 use Rattle.pgs_range.specs.declared.family_range.FamilyRange.{FamilyRange}
 use Rattle.pgs_chunk.specs.Positions.{family_of_id, position_cmp, in_one_family, Ascends}
-use Rattle.pgs_chunk.specs.Selection.{from_start, is_later_family, is_candidate, is_upto, IsEnd, IsSelected}
-use Rattle.pgs_chunk.proofs.Families.{family_total, one_family_is}
+use Rattle.pgs_chunk.specs.Selection.{from_start, is_later_family, is_candidate, is_upto, IsSelected}
+use Rattle.pgs_chunk.proofs.Families.{family_total, told_twice, one_family_is}
 use Rattle.pgs_chunk.proofs.Lists.{all_filtered}
 use Rattle.pgs_chunk.proofs.Starts.{family_upto}
 
@@ -28,22 +28,18 @@ less_from Less h k = refl
 less_from Equal h k = absurd (true_false k)
 less_from Greater h k = absurd (true_false (sym h))
 
-told_twice : (b : Bool) → b ≡ true → not b ≡ true → ⊥
-told_twice true p q = true_false (sym q)
-told_twice false p q = true_false (sym p)
-
 -- a later position of another family is of a family above
 family_above : (first id : ObjectId) (f : Family) → position_cmp first id ≡ Less → same_family (family_of_id id) f ≡ true
     → not (same_family (family_of_id first) f) ≡ true → family_cmp (family_of_id first) f ≡ Less
 family_above first id f l e n =
     let one : family_of_id id ≡ f = same_family_is (family_of_id id) f e in
     let apart : in_one_family first id ≡ false =
-        elim (true_or_false (in_one_family first id)) [
-          | inl same ↦ absurd (told_twice (same_family (family_of_id first) f) (ap (same_family (family_of_id first)) (sym one) ∙ same) n)
-          | inr other ↦ other
-        ] in
+    elim (true_or_false (in_one_family first id)) [
+      | inl same ↦ absurd (told_twice (same_family (family_of_id first) f) (ap (same_family (family_of_id first)) (sym one) ∙ same) n)
+      | inr other ↦ other
+    ] in
     let less : family_cmp (family_of_id first) (family_of_id id) ≡ Less =
-        less_from (family_cmp (family_of_id first) (family_of_id id)) (family_upto first id l) (sym (one_family_is first id) ∙ apart) in
+    less_from (family_cmp (family_of_id first) (family_of_id id)) (family_upto first id l) (sym (one_family_is first id) ∙ apart) in
     ap (family_cmp (family_of_id first)) (sym one) ∙ less
 
 later_above : (first : ObjectId) (rest : List ObjectId) (f : Family) → AllByRecursion (λ id. position_cmp first id ≡ Less) rest

@@ -20,7 +20,7 @@ lt_reverse Less h = refl
 lt_reverse Equal h = refl
 lt_reverse Greater h = absurd (true_false (sym h))
 
-squeezed : (r : Ordering) → is_le r ≡ true → is_le (ordering_reverse r) ≡ true → is_eq r ≡ true
+pub squeezed : (r : Ordering) → is_le r ≡ true → is_le (ordering_reverse r) ≡ true → is_eq r ≡ true
 squeezed Less h k = absurd (true_false (sym k))
 squeezed Equal h k = refl
 squeezed Greater h k = absurd (true_false (sym h))

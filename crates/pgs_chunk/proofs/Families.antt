@@ -60,7 +60,7 @@ family_alike a b =
     (texts_ties a.name b.name))
     ∙ implied p s k n (one_place a b)
 
-told_twice : (b : Bool) → b ≡ true → not b ≡ true → ⊥
+pub told_twice : (b : Bool) → b ≡ true → not b ≡ true → ⊥
 told_twice true p q = true_false (sym q)
 told_twice false p q = true_false (sym p)
 

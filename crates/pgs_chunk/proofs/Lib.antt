@@ -6,3 +6,4 @@ pub mod Cuts
 pub mod Starts
 pub mod Ends
 pub mod Above
+pub mod Early
