@@ -70,7 +70,7 @@ not_false : (b : Bool) → not b ≡ false → b ≡ true
 not_false true e = refl
 not_false false e = sym e
 
-not_truth : (b : Bool) → not b ≡ true → b ≡ false
+pub not_truth : (b : Bool) → not b ≡ true → b ≡ false
 not_truth true e = sym e
 not_truth false e = refl
 

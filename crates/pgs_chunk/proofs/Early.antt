@@ -17,10 +17,10 @@ use Rattle.pgs_range.specs.declared.bound.Bound.{Bound}
 use Rattle.pgs_range.specs.declared.bound.Bound.TheVariants.{Min, At, Max}
 use Rattle.pgs_range.specs.declared.family_range.FamilyRange.{FamilyRange}
 use Rattle.pgs_chunk.specs.Positions.{family_of_id, position_cmp, in_one_family, Ascends}
-use Rattle.pgs_chunk.specs.Selection.{from_start, fits, is_later_family, is_candidate, is_upto, IsEnd, IsSelected}
+use Rattle.pgs_chunk.specs.Selection.{from_start, fits, is_later_family, is_candidate, is_upto, IsEnd, IsSelected, is_enough, IsSettled}
 use Rattle.pgs_chunk.specs.Next.{next_position}
 use Rattle.pgs_chunk.proofs.Families.{family_total, one_family_is}
-use Rattle.pgs_chunk.proofs.Cuts.{squeezed}
+use Rattle.pgs_chunk.proofs.Cuts.{squeezed, not_truth}
 use Rattle.pgs_chunk.proofs.Ends.{ends_there, ends_nowhere}
 
 -- ---- there is one end
@@ -88,15 +88,21 @@ ends_early limit xs more end h k f e (Some x) n =
     subst (IsEnd limit (xs ++ more)) (one_end limit xs (At (family_of_id x)) end (ends_there limit xs x h n) e)
     (ends_there limit (xs ++ more) x k (next_stays limit xs more x n))
 
-pub selected_early : (limit : ℕ) (listed more : List ObjectId) (start : Bound) (range : FamilyRange) → Ascends listed → Ascends (listed ++ more)
-    → fits limit (from_start start listed) Max ≡ false → IsSelected limit listed start range → IsSelected limit (listed ++ more) start range
-selected_early limit listed more start range h k f s =
+behind : (limit : ℕ) (listed more : List ObjectId) (start : Bound) (range : FamilyRange) → Ascends listed → Ascends (listed ++ more)
+    → is_enough limit listed start ≡ true → IsSelected limit listed start range → IsSelected limit (listed ++ more) start range
+behind limit listed more start range h k f s =
     let p : ObjectId → Bool = λ id. is_at_most start (family_of_id id) in
-    let both_lists : from_start start (listed ++ more) ≡ from_start start listed ++ from_start start more = filter-append p listed more in
+    let counted : List ObjectId = from_start start listed in
+    let both_lists : from_start start (listed ++ more) ≡ counted ++ from_start start more = filter-append p listed more in
+    let over : fits limit counted Max ≡ false = not_truth (fits limit counted Max) f in
     record {
       begins = s.begins;
       ends =
           subst (λ l. IsEnd limit l range.to) (sym both_lists)
-          (ends_early limit (from_start start listed) (from_start start more) range.to (IsStrictlySortedBy-filter position_cmp p listed h)
-          (subst Ascends both_lists (IsStrictlySortedBy-filter position_cmp p (listed ++ more) k)) f s.ends (next_position limit (from_start start listed)) refl);
+          (ends_early limit counted (from_start start more) range.to (IsStrictlySortedBy-filter position_cmp p listed h)
+          (subst Ascends both_lists (IsStrictlySortedBy-filter position_cmp p (listed ++ more) k)) over s.ends (next_position limit counted) refl);
     }
+
+pub settled : (limit : ℕ) (listed : List ObjectId) (start : Bound) (range : FamilyRange) → Ascends listed → is_enough limit listed start ≡ true
+    → IsSelected limit listed start range → IsSettled limit listed start range
+settled limit listed start range h f s = record { whatever = λ more k. behind limit listed more start range h k f s }

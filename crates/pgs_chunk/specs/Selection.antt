@@ -1,5 +1,5 @@
 -- Where a chunk ends.
-use Rattle.std.specs.Prelude.{ℕ, Bool, true, false, not, nat_le, ◌&&◌, ◌||◌, List, [], ◌∷◌, length, filter, IsTrue, ◌≡◌}
+use Rattle.std.specs.Prelude.{ℕ, Bool, true, false, not, nat_le, ◌&&◌, ◌||◌, List, [], ◌∷◌, ◌++◌, length, filter, IsTrue, ◌≡◌}
 use Rattle.std.specs.List.{list_all, list_any}
 use Rattle.std.specs.Ordering.{is_le}
 use Rattle.pgs_name.specs.Families.{same_family}
@@ -10,7 +10,7 @@ use Rattle.pgs_range.specs.Ranges.{is_at_most, is_above}
 use Rattle.pgs_range.specs.declared.bound.Bound.{Bound}
 use Rattle.pgs_range.specs.declared.bound.Bound.TheVariants.{Min, At, Max}
 use Rattle.pgs_range.specs.declared.family_range.FamilyRange.{FamilyRange}
-use Rattle.pgs_chunk.specs.Positions.{family_of_id, in_one_family}
+use Rattle.pgs_chunk.specs.Positions.{family_of_id, in_one_family, Ascends}
 
 -- the listed positions without those below the start
 abbrev pub from_start : Bound → List ObjectId → List ObjectId
@@ -59,3 +59,11 @@ pub record IsEnd (limit : ℕ) (listed : List ObjectId) (end : Bound) : Type 0 w
 pub record IsSelected (limit : ℕ) (listed : List ObjectId) (start : Bound) (range : FamilyRange) : Type 0 where
   pub begins : range.from ≡ start
   pub ends : IsEnd limit (from_start start listed) range.to
+
+-- more than so many counted positions, and more than one family, are listed, so a listing may stop
+abbrev pub is_enough : ℕ → List ObjectId → Bound → Bool
+is_enough limit listed start = not (fits limit (from_start start listed) Max)
+
+-- whatever is listed behind changes nothing
+pub record IsSettled (limit : ℕ) (listed : List ObjectId) (start : Bound) (range : FamilyRange) : Type 0 where
+  pub whatever : (more : List ObjectId) → Ascends (listed ++ more) → IsSelected limit (listed ++ more) start range
