@@ -1,5 +1,5 @@
 -- A chunk ends above its start.
-use Rattle.std.proofs.Common.{ℕ, ◌≡◌, inl, inr, true, false, not, ◌||◌, List, [], ◌∷◌, refl, sym, ap, ◌∙◌}
+use Rattle.std.proofs.Common.{Bool, not, ℕ, ◌≡◌, inl, inr, true, false, ◌||◌, List, [], ◌∷◌, refl, sym, ap, ◌∙◌}
 use Rattle.std.specs.BTreeMap.Comparable.{le_lt_trans}
 use Rattle.std.specs.List.{AllByRecursion, list_any}
 use Rattle.std.specs.declared.cmp.Ordering.{Ordering}
@@ -17,9 +17,12 @@ use Rattle.pgs_range.specs.Ranges.{is_at_most}
 use Rattle.pgs_range.specs.declared.bound.Bound.{Bound}
 use Rattle.pgs_range.specs.declared.bound.Bound.TheVariants.{Min, At, Max}
 use Rattle.pgs_range.specs.declared.family_range.FamilyRange.{FamilyRange}
-use Rattle.pgs_chunk.specs.Positions.{family_of_id, position_cmp, in_one_family, Ascends}
-use Rattle.pgs_chunk.specs.Selection.{from_start, is_later_family, is_candidate, is_upto, IsSelected}
-use Rattle.pgs_chunk.proofs.Families.{family_total, told_twice, one_family_is}
+use Rattle.pgs_position.specs.Positions.{family_of_id, position_cmp}
+use Rattle.pgs_position.specs.Ends.{is_upto}
+use Rattle.pgs_position.proofs.Families.{family_total}
+use Rattle.pgs_chunk.specs.Positions.{in_one_family, Ascends}
+use Rattle.pgs_chunk.specs.Selection.{from_start, is_later_family, is_candidate, IsSelected}
+use Rattle.pgs_chunk.proofs.Families.{one_family_is}
 use Rattle.pgs_chunk.proofs.Lists.{all_filtered}
 use Rattle.pgs_chunk.proofs.Starts.{family_upto}
 
@@ -27,6 +30,10 @@ less_from : (r : Ordering) → is_le r ≡ true → is_eq r ≡ false → r ≡ 
 less_from Less h k = refl
 less_from Equal h k = absurd (true_false k)
 less_from Greater h k = absurd (true_false (sym h))
+
+told_twice : (b : Bool) → b ≡ true → not b ≡ true → ⊥
+told_twice true p q = true_false (sym q)
+told_twice false p q = true_false (sym p)
 
 -- a later position of another family is of a family above
 family_above : (first id : ObjectId) (f : Family) → position_cmp first id ≡ Less → same_family (family_of_id id) f ≡ true

@@ -16,10 +16,13 @@ use Rattle.pgs_range.specs.Ranges.{is_at_most}
 use Rattle.pgs_range.specs.declared.bound.Bound.{Bound}
 use Rattle.pgs_range.specs.declared.bound.Bound.TheVariants.{Min, At, Max}
 use Rattle.pgs_range.specs.declared.family_range.FamilyRange.{FamilyRange}
-use Rattle.pgs_chunk.specs.Positions.{family_of_id, position_cmp, in_one_family, Ascends}
-use Rattle.pgs_chunk.specs.Selection.{from_start, fits, is_later_family, is_candidate, is_upto, IsEnd, IsSelected, is_enough, IsSettled}
+use Rattle.pgs_position.specs.Positions.{family_of_id, position_cmp}
+use Rattle.pgs_position.specs.Ends.{is_upto}
+use Rattle.pgs_position.proofs.Families.{family_total}
+use Rattle.pgs_chunk.specs.Positions.{in_one_family, Ascends}
+use Rattle.pgs_chunk.specs.Selection.{from_start, fits, is_later_family, is_candidate, IsEnd, IsSelected, is_enough, IsSettled}
 use Rattle.pgs_chunk.specs.Next.{next_position}
-use Rattle.pgs_chunk.proofs.Families.{family_total, one_family_is}
+use Rattle.pgs_chunk.proofs.Families.{one_family_is}
 use Rattle.pgs_chunk.proofs.Cuts.{squeezed, not_truth}
 use Rattle.pgs_chunk.proofs.Ends.{ends_there, ends_nowhere}
 

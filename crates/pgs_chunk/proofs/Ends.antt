@@ -10,10 +10,13 @@ use Rattle.pgs_name.specs.declared.object_id.ObjectId.{ObjectId}
 use Rattle.pgs_range.specs.Order.{family_cmp}
 use Rattle.pgs_range.specs.declared.bound.Bound.{Bound}
 use Rattle.pgs_range.specs.declared.bound.Bound.TheVariants.{Min, At, Max}
-use Rattle.pgs_chunk.specs.Positions.{family_of_id, position_cmp, Ascends, in_one_family}
-use Rattle.pgs_chunk.specs.Selection.{below, of_one_family, fits, is_later_family, is_candidate, is_upto, IsEnd}
+use Rattle.pgs_position.specs.Positions.{family_of_id, position_cmp}
+use Rattle.pgs_position.specs.Ends.{is_upto}
+use Rattle.pgs_position.proofs.Families.{family_total}
+use Rattle.pgs_chunk.specs.Positions.{Ascends, in_one_family}
+use Rattle.pgs_chunk.specs.Selection.{below, of_one_family, fits, is_later_family, is_candidate, IsEnd}
 use Rattle.pgs_chunk.specs.Next.{next_position}
-use Rattle.pgs_chunk.proofs.Families.{family_total, one_family_is}
+use Rattle.pgs_chunk.proofs.Families.{one_family_is}
 use Rattle.pgs_chunk.proofs.Lists.{all_weaker}
 use Rattle.pgs_chunk.proofs.Starts.{family_upto}
 use Rattle.pgs_chunk.proofs.Cuts as cuts

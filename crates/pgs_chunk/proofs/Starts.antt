@@ -12,9 +12,10 @@ use Rattle.pgs_range.specs.Order.{family_cmp}
 use Rattle.pgs_range.specs.Ranges.{is_at_most}
 use Rattle.pgs_range.specs.declared.bound.Bound.{Bound}
 use Rattle.pgs_range.specs.declared.bound.Bound.TheVariants.{Min, At, Max}
-use Rattle.pgs_chunk.specs.Positions.{family_of_id, position_cmp, Ascends}
+use Rattle.pgs_position.specs.Positions.{family_of_id, position_cmp}
+use Rattle.pgs_position.proofs.Families.{family_total}
+use Rattle.pgs_chunk.specs.Positions.{Ascends}
 use Rattle.pgs_chunk.specs.Selection.{from_start}
-use Rattle.pgs_chunk.proofs.Families.{family_total}
 use Rattle.pgs_chunk.proofs.Lists.{all_weaker, filter_all}
 
 le_is : (r : Ordering) → is_le r ≡ true → is_gt r ≡ false

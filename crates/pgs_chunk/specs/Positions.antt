@@ -1,20 +1,9 @@
--- Positions, their families and their order.
+-- Lists of positions.
 use Rattle.std.specs.Prelude.{Bool, List}
-use Rattle.std.specs.declared.cmp.Ordering.{Ordering}
 use Rattle.std.specs.List.Sorted.{IsStrictlySortedBy}
-use Rattle.std.specs.Ordering.{nat_cmp, ordering_then}
 use Rattle.pgs_name.specs.Families.{same_family}
-use Rattle.pgs_name.specs.declared.family.Family.{Family}
 use Rattle.pgs_name.specs.declared.object_id.ObjectId.{ObjectId}
-use Rattle.pgs_range.specs.Order.{family_cmp}
-
--- the family of a position: its name without the snap
-abbrev pub family_of_id : ObjectId → Family
-family_of_id id = record { space = id.space; key = id.key; name = id.name }
-
--- by family, then by snap
-abbrev pub position_cmp : ObjectId → ObjectId → Ordering
-position_cmp a b = ordering_then (family_cmp (family_of_id a) (family_of_id b)) (nat_cmp a.snap b.snap)
+use Rattle.pgs_position.specs.Positions.{family_of_id, position_cmp}
 
 -- each position stands before all behind it
 abbrev pub Ascends : List ObjectId → Type 0

@@ -1,16 +1,16 @@
 -- Where a chunk ends.
 use Rattle.std.specs.Prelude.{ℕ, Bool, true, false, not, nat_le, ◌&&◌, ◌||◌, List, [], ◌∷◌, ◌++◌, length, filter, IsTrue, ◌≡◌}
 use Rattle.std.specs.List.{list_all, list_any}
-use Rattle.std.specs.Ordering.{is_le}
 use Rattle.pgs_name.specs.Families.{same_family}
 use Rattle.pgs_name.specs.declared.family.Family.{Family}
 use Rattle.pgs_name.specs.declared.object_id.ObjectId.{ObjectId}
-use Rattle.pgs_range.specs.Order.{family_cmp}
 use Rattle.pgs_range.specs.Ranges.{is_at_most, is_above}
 use Rattle.pgs_range.specs.declared.bound.Bound.{Bound}
 use Rattle.pgs_range.specs.declared.bound.Bound.TheVariants.{Min, At, Max}
 use Rattle.pgs_range.specs.declared.family_range.FamilyRange.{FamilyRange}
-use Rattle.pgs_chunk.specs.Positions.{family_of_id, in_one_family, Ascends}
+use Rattle.pgs_position.specs.Ends.{is_upto}
+use Rattle.pgs_position.specs.Positions.{family_of_id}
+use Rattle.pgs_chunk.specs.Positions.{in_one_family, Ascends}
 
 -- the listed positions without those below the start
 abbrev pub from_start : Bound → List ObjectId → List ObjectId
@@ -38,16 +38,6 @@ abbrev pub is_candidate : List ObjectId → Bound → Bool
 is_candidate listed Min = false
 is_candidate listed (At f) = is_later_family listed f
 is_candidate listed Max = true
-
--- a bound isn't above another
-abbrev pub is_upto : Bound → Bound → Bool
-is_upto Min b = true
-is_upto (At f) Min = false
-is_upto (At f) (At g) = is_le (family_cmp f g)
-is_upto (At f) Max = true
-is_upto Max Min = false
-is_upto Max (At g) = false
-is_upto Max Max = true
 
 -- a chunk ends at the greatest candidate that fits
 pub record IsEnd (limit : ℕ) (listed : List ObjectId) (end : Bound) : Type 0 where

@@ -1,11 +1,11 @@
 ghost use Rattle.std.specs.Prelude.{◌≡◌, drop, IfOk};
 ghost use Rattle.std.specs.Option.{option_copied};
-ghost use Rattle.pgs_chunk.specs.Positions.{Ascends, family_of_id};
+ghost use Rattle.pgs_chunk.specs.Positions.{Ascends};
 ghost use Rattle.pgs_chunk.specs.Selection.{IsEnd};
 ghost use Rattle.pgs_chunk.specs.Next as next;
 
-use crate::positions::in_one_family;
 use pgs_name::ObjectId;
+use pgs_position::{bound_at, is_same_family};
 use pgs_range::Bound;
 use std::alloc::AllocError;
 
@@ -19,14 +19,6 @@ pub fn end_of(listed: &[ObjectId], limit: u32) -> Result<Bound, AllocError>
         Some(id) => bound_at(id),
         None => Ok(Bound::Max),
     }
-}
-
-// The bound at a position's family.
-fn bound_at(id: &ObjectId) -> Result<Bound, AllocError>
-    ensures { IfOk result (λ bound. bound ≡ Bound.At (family_of_id id.now)) }
-{
-    let family = id.family()?;
-    Ok(Bound::At { family })
 }
 
 // The first position that isn't of the first family, behind as many as the limit.
@@ -46,5 +38,5 @@ fn other_than<'a>(first: &ObjectId, listed: &'a [ObjectId], passed: usize) -> Op
     listed
         .iter()
         .skip(passed)
-        .find(|id| !in_one_family(first, *id))
+        .find(|id| !is_same_family(first, *id))
 }

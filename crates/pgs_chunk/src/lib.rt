@@ -5,7 +5,6 @@ mod ask;
 mod ending;
 mod kind;
 mod limits;
-mod positions;
 mod selection;
 mod settings;
 mod starting;

@@ -1,5 +1,6 @@
 ghost use Rattle.std.specs.Prelude.{◌≡◌, IfOk};
-ghost use Rattle.pgs_chunk.specs.Positions.{Ascends, family_of_id};
+ghost use Rattle.pgs_chunk.specs.Positions.{Ascends};
+ghost use Rattle.pgs_position.specs.Positions.{family_of_id};
 ghost use Rattle.pgs_chunk.specs.Selection as selection;
 ghost use Rattle.pgs_range.specs.Ranges.{is_at_most};
 

@@ -8,8 +8,9 @@ use Rattle.std.specs.Ordering.{nat_cmp, ordering_then}
 use Rattle.pgs_name.specs.declared.family.Family.{Family}
 use Rattle.pgs_name.specs.declared.object_id.ObjectId.{ObjectId}
 use Rattle.pgs_range.specs.Order.{family_cmp, place_of, text_cmp}
-use Rattle.pgs_chunk.specs.Positions.{family_of_id, position_cmp, Ascends}
-use Rattle.pgs_chunk.proofs.Families.{family_total}
+use Rattle.pgs_position.specs.Positions.{family_of_id, position_cmp}
+use Rattle.pgs_position.proofs.Families.{family_total}
+use Rattle.pgs_chunk.specs.Positions.{Ascends}
 use Rattle.pgs_chunk.proofs.Lists.{all_weaker, all_both}
 use Rattle.pgs_chunk_tests.specs.Clones.{IsNamed, IsClone, AreClones}
 
