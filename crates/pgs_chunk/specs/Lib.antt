@@ -1,0 +1,5 @@
+-- Limits of chunks, and where a chunk ends.
+pub mod Limits
+pub mod Positions
+pub mod Selection
+pub mod Next

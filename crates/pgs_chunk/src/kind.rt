@@ -1,0 +1,10 @@
+/// What a scrub looks at, and whether it mends what it finds.
+#[derive(Drop)]
+pub enum Kind {
+    /// Names, sizes and attributes.
+    Shallow,
+    /// The data too.
+    Deep,
+    /// The data too, and what is wrong is mended.
+    Repair,
+}

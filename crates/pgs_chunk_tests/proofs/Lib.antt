@@ -1,0 +1,2 @@
+-- Lists of clones ascend.
+pub mod Pushes
