@@ -9,7 +9,7 @@ pub struct Settings {
     pub limits: Limits,
     /// How many bytes are read at a time.
     pub stride: u32,
-    /// Whether lists are kept of what is found.
+    /// Whether only the lists of what is found are printed, and no single step.
     pub lists: bool,
 }
 
