@@ -9,7 +9,7 @@ use Rattle.pgs_order.specs.declared.declarations.Group.{Group}
 use Rattle.pgs_order.proofs.Keeps.{names_member}
 use Rattle.pgs_world.specs.State.{WorldState, opening}
 use Rattle.pgs_history.specs.declared.made.Made.{Made}
-use Rattle.pgs_world.specs.Counts.{IsNamedStep, AreNamed, AreInStep}
+use Rattle.pgs_world.specs.Counts.{IsNamedStep, AreNamed, AreInStep, IsOrderly}
 use Rattle.pgs_world.specs.Acknowledged.{AreAcknowledged}
 use Rattle.pgs_world.specs.Sound.{IsSound}
 use Rattle.pgs_top.specs.Histories.{made_of, OfWorld}
@@ -39,6 +39,10 @@ acknowledged (Some w) sound = sound.acknowledged
 pub in_step : (world : Option WorldState) → OfWorld IsSound world → OfWorld AreInStep world
 in_step None sound = tt
 in_step (Some w) sound = sound.in_step
+
+pub orderly : (world : Option WorldState) → OfWorld IsSound world → OfWorld IsOrderly world
+orderly None sound = tt
+orderly (Some w) sound = sound.orderly
 
 pub opening_named : (world : WorldState) (made wanted : Made) (script : List Step) → world ≡ opening made → made ≡ wanted → AreNamed wanted script → AreNamed world.made script
 opening_named world made wanted script is e named = subst (λ m. AreNamed m script) (sym (ap (λ w. w.made) is ∙ e)) named

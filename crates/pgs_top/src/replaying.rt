@@ -4,7 +4,7 @@ ghost use Rattle.pgs_texts.specs.Text.{IsTextOf};
 ghost use Rattle.pgs_order.specs.Ordered.{IsOrdered};
 ghost use Rattle.pgs_script.specs.Script.{script_grammar};
 ghost use Rattle.pgs_world.specs.Acknowledged.{AreAcknowledged};
-ghost use Rattle.pgs_world.specs.Counts.{AreInStep};
+ghost use Rattle.pgs_world.specs.Counts.{AreInStep, IsOrderly};
 ghost use Rattle.pgs_world.specs.Sound.{IsSound};
 ghost use Rattle.pgs_top.specs.Histories.{histories_of, no_histories, OfWorld};
 ghost use Rattle.pgs_top.specs.Ends.{INPUT_MAX, IsDue, Due, IsWritten, Scripted, IsRefusal, IsRun};
@@ -85,7 +85,7 @@ fn run<K: Sink>(alloc: Global, script: StepScript, sink: &mut K) -> Ended
 }
 
 /// Reads a script, replays it, and writes what happened. Nothing is written before the whole script was read.
-#[tactic(auto, using(crate::proofs::Dues::run_due, crate::proofs::Worlds::acknowledged, crate::proofs::Worlds::in_step))]
+#[tactic(auto, using(crate::proofs::Dues::run_due, crate::proofs::Worlds::acknowledged, crate::proofs::Worlds::in_step, crate::proofs::Worlds::orderly))]
 pub fn replay<S: Source, K: Sink>(alloc: Global, source: &mut S, sink: &mut K) -> Ended
     // How it ends is due for what was read,
     ensures due { Due (S.left source.old) result.kept result.status }
@@ -93,6 +93,8 @@ pub fn replay<S: Source, K: Sink>(alloc: Global, source: &mut S, sink: &mut K) -
     ensures written { IsWritten (K.taken sink.old) (K.taken sink.new) result.kept result.status }
     // Every write that was answered as acknowledged stands in the log once, and each acting OSD applied it.
     ensures acknowledged { OfWorld AreAcknowledged result.kept.world }
+    // The log is numbered without gaps, and no request stands in it twice.
+    ensures orderly { OfWorld IsOrderly result.kept.world }
     // Members told of no more than they applied, and applied no more than they pulled of the log, in its order.
     ensures in_step { OfWorld AreInStep result.kept.world }
     // A fault comes only where the count of that end rose.

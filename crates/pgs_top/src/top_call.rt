@@ -1,7 +1,7 @@
 ghost use Rattle.std.specs.Prelude.{◌≡◌, ◌≢◌, ◌↔◌, map, string_bytes, MatchBool};
 ghost use Rattle.pgs_cause.specs.Count.{Rose};
 ghost use Rattle.pgs_world.specs.Acknowledged.{AreAcknowledged};
-ghost use Rattle.pgs_world.specs.Counts.{AreInStep};
+ghost use Rattle.pgs_world.specs.Counts.{AreInStep, IsOrderly};
 ghost use Rattle.pgs_top.specs.Histories.{OfWorld};
 ghost use Rattle.pgs_top.specs.Ends.{Due, IsWritten, replay_words};
 
@@ -36,6 +36,8 @@ pub fn top<S: Source, K: Sink>(
     ensures written { IsWritten (K.taken sink.old) (K.taken sink.new) result.kept result.status }
     // Every write that was answered as acknowledged stands in the log once, and each acting OSD applied it.
     ensures acknowledged { OfWorld AreAcknowledged result.kept.world }
+    // The log is numbered without gaps, and no request stands in it twice.
+    ensures orderly { OfWorld IsOrderly result.kept.world }
     // Members told of no more than they applied, and applied no more than they pulled of the log, in its order.
     ensures in_step { OfWorld AreInStep result.kept.world }
     // A fault comes only where the count of that end rose.

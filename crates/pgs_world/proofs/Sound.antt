@@ -2,6 +2,7 @@
 use Rattle.std.proofs.Common.{◌≡◌, ℕ, zero, suc, List, [], ◌∷◌, refl, sym, subst}
 use Rattle.std.specs.List.{AllByRecursion}
 use Rattle.pgs_history.specs.Answers.{collect_answer}
+use Rattle.pgs_history.proofs.Ids.{numbered, distinct}
 use Rattle.pgs_history.specs.declared.made.Made.{Made}
 use Rattle.pgs_lines.specs.declared.basic.Basic.{Basic}
 use Rattle.pgs_lines.specs.declared.basic.Basic.TheVariants as basics
@@ -21,6 +22,7 @@ use Rattle.pgs_world.proofs.Acks.{Grows, acks_grow, grows_write, grows_collect, 
 kept_sound : (a b : WorldState) (done : Done) → IsSound a → AreInStep b → Grows a b → b.done ≡ done ∷ a.done → StillHolds b done → IsSound b
 kept_sound a b done sound in_step grows is holds = record {
   in_step = in_step;
+  orderly = record { items = numbered b.made b.past in_step.legal; requests = distinct b.made b.past in_step.legal };
   acknowledged = subst (AllByRecursion (StillHolds b)) (sym is) (holds, acks_grow a b in_step grows sound.acknowledged);
 }
 
@@ -75,7 +77,7 @@ sound_steps w [] s = s
 sound_steps w (step ∷ script) s = sound_steps (after_step w step) script (sound_step w step s)
 
 pub sound_opening : (made : Made) → IsSound (opening made)
-sound_opening made = record { in_step = in_opening made; acknowledged = tt }
+sound_opening made = record { in_step = in_opening made; orderly = record { items = tt; requests = tt }; acknowledged = tt }
 
 pub opening_sound : (world : WorldState) (made : Made) → world ≡ opening made → IsSound world
 opening_sound world made is = subst IsSound (sym is) (sound_opening made)

@@ -5,9 +5,10 @@ use Rattle.pgs_lines.specs.declared.basic.Basic.{Basic}
 use Rattle.pgs_lines.specs.declared.basic.Basic.TheVariants as basics
 use Rattle.pgs_lines.specs.declared.step.Step.{Step}
 use Rattle.pgs_lines.specs.declared.step.Step.TheVariants as steps
-use Rattle.pgs_history.specs.Log.{log}
+use Rattle.pgs_op_log.specs.Logs.{AreNumbered}
+use Rattle.pgs_history.specs.Log.{log, ids}
 use Rattle.pgs_history.specs.Members.{pulled, told}
-use Rattle.pgs_history.specs.Facts.{upto}
+use Rattle.pgs_history.specs.Facts.{upto, AreDistinct}
 use Rattle.pgs_history.specs.Legal.{IsLegal}
 use Rattle.pgs_history.specs.declared.event.Event.{Event}
 use Rattle.pgs_history.specs.declared.made.Made.{Made}
@@ -35,6 +36,11 @@ pub record AreInStep (w : WorldState) : Type 0 where
   pub legal : IsLegal w.made w.past
   pub named : map (λ member. member.osd) w.members ≡ w.made.members
   pub each : (osd : ℕ) → is_member w.made osd ≡ true → IsInStep w.past osd (past_in w.members osd)
+
+-- The log of a world: its items have the numbers from 1 on, without a gap, and no request stands in it twice.
+pub record IsOrderly (w : WorldState) : Type 0 where
+  pub items : AreNumbered (log w.past)
+  pub requests : AreDistinct (ids w.past)
 
 -- the OSD that a step names is a member, where its answer turns on that
 abbrev pub IsNamed : Made → Basic → Type 0
