@@ -9,15 +9,15 @@ use Rattle.std.proofs.lemmas.List.Kept.{IsStrictlySortedBy-filter}
 use Rattle.pgs_bytes.proofs.Facts.{both, true_false, true_or_false, some_none}
 use Rattle.pgs_name.specs.Families.{same_family}
 use Rattle.pgs_name.proofs.Families.{same_family_is}
-use Rattle.pgs_name.specs.declared.family.Family.{Family}
+use Rattle.pgs_name.specs.Families.{Family}
 use Rattle.pgs_name.specs.declared.object_id.ObjectId.{ObjectId}
-use Rattle.pgs_range.specs.Order.{family_cmp}
+use Rattle.pgs_name.specs.Order.{family_cmp}
 use Rattle.pgs_range.specs.Ranges.{is_at_most}
 use Rattle.pgs_range.specs.declared.bound.Bound.{Bound}
 use Rattle.pgs_range.specs.declared.bound.Bound.TheVariants.{Min, At, Max}
 use Rattle.pgs_range.specs.declared.family_range.FamilyRange.{FamilyRange}
-use Rattle.pgs_position.specs.Positions.{family_of_id, position_cmp}
-use Rattle.pgs_position.specs.Ends.{is_upto}
+use Rattle.pgs_name.specs.Positions.{position_cmp}
+use Rattle.pgs_range.specs.Ends.{is_upto}
 use Rattle.pgs_position.proofs.Families.{family_total}
 use Rattle.pgs_chunk.specs.Positions.{in_one_family, Ascends}
 use Rattle.pgs_chunk.specs.Selection.{from_start, fits, is_later_family, is_candidate, IsEnd, IsSelected, is_enough, IsSettled}
@@ -29,24 +29,24 @@ use Rattle.pgs_chunk.proofs.Ends.{ends_there, ends_nowhere}
 -- ---- there is one end
 
 -- a listed family is that of a position
-listed_family : (f : Family) (xs : List ObjectId) → list_any (λ id. same_family (family_of_id id) f) xs ≡ true → (id : ObjectId) × (family_of_id id ≡ f)
+listed_family : (f : Family) (xs : List ObjectId) → list_any (λ id. same_family id.family f) xs ≡ true → (id : ObjectId) × (family_of_id id ≡ f)
 listed_family f [] e = absurd (true_false (sym e))
 listed_family f (x ∷ xs) e =
-    elim (true_or_false (same_family (family_of_id x) f)) [
-      | inl same ↦ (x, same_family_is (family_of_id x) f same)
-      | inr other ↦ listed_family f xs (ap (λ b. b || list_any (λ id. same_family (family_of_id id) f) xs) (sym other) ∙ e)
+    elim (true_or_false (same_family x.family f)) [
+      | inl same ↦ (x, same_family_is x.family f same)
+      | inr other ↦ listed_family f xs (ap (λ b. b || list_any (λ id. same_family id.family f) xs) (sym other) ∙ e)
     ]
 
 later_family : (f : Family) (xs : List ObjectId) → is_later_family xs f ≡ true → (id : ObjectId) × (family_of_id id ≡ f)
 later_family f [] e = absurd (true_false (sym e))
 later_family f (first ∷ rest) e =
-    listed_family f rest (both (not (same_family (family_of_id first) f)) (list_any (λ id. same_family (family_of_id id) f) rest) e).1
+    listed_family f rest (both (not (same_family first.family f)) (list_any (λ id. same_family id.family f) rest) e).1
 
 one_family : (f g : Family) (a b : ObjectId) → family_of_id a ≡ f → family_of_id b ≡ g → is_le (family_cmp f g) ≡ true → is_le (family_cmp g f) ≡ true → f ≡ g
 one_family f g a b p q h k =
     let level : is_eq (family_cmp f g) ≡ true = squeezed (family_cmp f g) h (ap is_le (sym (family_total.antisymm g f)) ∙ k) in
     let same : in_one_family a b ≡ true = one_family_is a b ∙ (λ i. is_eq (family_cmp (p i) (q i))) ∙ level in
-    sym p ∙ same_family_is (family_of_id a) (family_of_id b) same ∙ q
+    sym p ∙ same_family_is a.family b.family same ∙ q
 
 one_bound : (xs : List ObjectId) (a b : Bound) → is_candidate xs a ≡ true → is_candidate xs b ≡ true → is_upto a b ≡ true → is_upto b a ≡ true → a ≡ b
 one_bound xs Min b p q h k = absurd (true_false (sym p))
@@ -88,13 +88,13 @@ ends_early : (limit : ℕ) (xs more : List ObjectId) (end : Bound) → Ascends x
     → (r : Option ObjectId) → r ≡ next_position limit xs → IsEnd limit (xs ++ more) end
 ends_early limit xs more end h k f e None n = absurd (true_false (sym (ends_nowhere limit xs h n).fitting ∙ f))
 ends_early limit xs more end h k f e (Some x) n =
-    subst (IsEnd limit (xs ++ more)) (one_end limit xs (At (family_of_id x)) end (ends_there limit xs x h n) e)
+    subst (IsEnd limit (xs ++ more)) (one_end limit xs (At x.family) end (ends_there limit xs x h n) e)
     (ends_there limit (xs ++ more) x k (next_stays limit xs more x n))
 
 behind : (limit : ℕ) (listed more : List ObjectId) (start : Bound) (range : FamilyRange) → Ascends listed → Ascends (listed ++ more)
     → is_enough limit listed start ≡ true → IsSelected limit listed start range → IsSelected limit (listed ++ more) start range
 behind limit listed more start range h k f s =
-    let p : ObjectId → Bool = λ id. is_at_most start (family_of_id id) in
+    let p : ObjectId → Bool = λ id. is_at_most start id.family in
     let counted : List ObjectId = from_start start listed in
     let both_lists : from_start start (listed ++ more) ≡ counted ++ from_start start more = filter-append p listed more in
     let over : fits limit counted Max ≡ false = not_truth (fits limit counted Max) f in

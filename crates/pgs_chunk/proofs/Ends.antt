@@ -7,11 +7,11 @@ use Rattle.std.proofs.lemmas.Map.Keys.{sorted_head, sorted_tail}
 use Rattle.std.proofs.lemmas.Option.{MatchOption-at_none, MatchOption-at_some}
 use Rattle.pgs_bytes.proofs.Facts.{true_false}
 use Rattle.pgs_name.specs.declared.object_id.ObjectId.{ObjectId}
-use Rattle.pgs_range.specs.Order.{family_cmp}
+use Rattle.pgs_name.specs.Order.{family_cmp}
 use Rattle.pgs_range.specs.declared.bound.Bound.{Bound}
 use Rattle.pgs_range.specs.declared.bound.Bound.TheVariants.{Min, At, Max}
-use Rattle.pgs_position.specs.Positions.{family_of_id, position_cmp}
-use Rattle.pgs_position.specs.Ends.{is_upto}
+use Rattle.pgs_name.specs.Positions.{position_cmp}
+use Rattle.pgs_range.specs.Ends.{is_upto}
 use Rattle.pgs_position.proofs.Families.{family_total}
 use Rattle.pgs_chunk.specs.Positions.{Ascends, in_one_family}
 use Rattle.pgs_chunk.specs.Selection.{below, of_one_family, fits, is_later_family, is_candidate, IsEnd}
@@ -30,7 +30,7 @@ Rises xs = cuts.Rises family_of_id family_cmp family_total in_one_family one_fam
 rises : (xs : List ObjectId) → Ascends xs → Rises xs
 rises [] h = tt
 rises (x ∷ xs) h = (
-  all_weaker (λ y. position_cmp x y ≡ Less) (λ y. is_le (family_cmp (family_of_id x) (family_of_id y)) ≡ true) (λ y l. family_upto x y l) xs
+  all_weaker (λ y. position_cmp x y ≡ Less) (λ y. is_le (family_cmp x.family y.family) ≡ true) (λ y l. family_upto x y l) xs
       (sorted_head position_cmp x xs h),
   rises xs (sorted_tail position_cmp x xs h),
 )
@@ -39,19 +39,19 @@ below_greatest : (xs : List ObjectId) → below Max xs ≡ xs
 below_greatest [] = refl
 below_greatest (x ∷ xs) = ap (λ l. x ∷ l) (below_greatest xs)
 
-is_later : (limit : ℕ) (xs : List ObjectId) (x : ObjectId) → IsCut limit xs x → is_later_family xs (family_of_id x) ≡ true
+is_later : (limit : ℕ) (xs : List ObjectId) (x : ObjectId) → IsCut limit xs x → is_later_family xs x.family ≡ true
 is_later limit xs x c =
-    ap (λ l. is_later_family l (family_of_id x)) c.begins ∙ cuts.cut_is_later family_of_id family_cmp family_total in_one_family one_family_is limit xs x c
+    ap (λ l. is_later_family l x.family) c.begins ∙ cuts.cut_is_later family_of_id family_cmp family_total in_one_family one_family_is limit xs x c
 
 greatest_at : (limit : ℕ) (xs : List ObjectId) (x : ObjectId) → Ascends xs → IsCut limit xs x → (other : Bound) → is_candidate xs other ≡ true → fits limit xs other ≡ true
-    → is_upto other (At (family_of_id x)) ≡ true
+    → is_upto other (At x.family) ≡ true
 greatest_at limit xs x h c Min k f = refl
 greatest_at limit xs x h c (At g) k f = cuts.upto_cut family_of_id family_cmp family_total in_one_family one_family_is limit xs x g (rises xs h) c f
 greatest_at limit xs x h c Max k f =
     absurd (true_false (sym f ∙ ap (λ l. nat_le (length l) limit || of_one_family l) (below_greatest xs)
     ∙ cuts.whole_is_over family_of_id family_cmp family_total in_one_family one_family_is limit xs x c))
 
-end_at : (limit : ℕ) (xs : List ObjectId) (x : ObjectId) → Ascends xs → IsCut limit xs x → IsEnd limit xs (At (family_of_id x))
+end_at : (limit : ℕ) (xs : List ObjectId) (x : ObjectId) → Ascends xs → IsCut limit xs x → IsEnd limit xs (At x.family)
 end_at limit xs x h c = record {
   candidate = is_later limit xs x c;
   fitting = cuts.cut_fits family_of_id family_cmp family_total in_one_family one_family_is limit xs x (rises xs h) c;
@@ -75,7 +75,7 @@ next_is limit [] h = cuts.next_cut family_of_id family_cmp family_total in_one_f
 next_is limit (x ∷ xs) h = cuts.next_cut family_of_id family_cmp family_total in_one_family one_family_is limit (x ∷ xs) (rises (x ∷ xs) h)
 
 -- at its family, where there is such a position
-pub ends_there : (limit : ℕ) (xs : List ObjectId) (x : ObjectId) → Ascends xs → Some x ≡ next_position limit xs → IsEnd limit xs (At (family_of_id x))
+pub ends_there : (limit : ℕ) (xs : List ObjectId) (x : ObjectId) → Ascends xs → Some x ≡ next_position limit xs → IsEnd limit xs (At x.family)
 ends_there limit xs x h e = end_at limit xs x h (MatchOption-at_some ((nat_le (length xs) limit || of_one_family xs) ≡ true) (IsCut limit xs) x (sym e) (next_is limit xs h))
 
 -- above all families, where there is none

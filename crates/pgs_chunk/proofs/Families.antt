@@ -2,12 +2,12 @@
 use Rattle.std.proofs.Common.{◌≡◌, sym}
 use Rattle.std.specs.Ordering.{is_eq}
 use Rattle.pgs_name.specs.declared.object_id.ObjectId.{ObjectId}
-use Rattle.pgs_range.specs.Order.{family_cmp}
-use Rattle.pgs_position.specs.Positions.{family_of_id}
+use Rattle.pgs_name.specs.Order.{family_cmp}
+
 use Rattle.pgs_position.proofs.Families.{family_same}
 use Rattle.pgs_position.proofs.Ordered.{kept}
 use Rattle.pgs_chunk.specs.Positions.{in_one_family}
 
 -- two positions are of one family where the order doesn't tell their families apart
-pub one_family_is : (a b : ObjectId) → in_one_family a b ≡ is_eq (family_cmp (family_of_id a) (family_of_id b))
-one_family_is a b = sym (family_same (family_of_id a) (family_of_id b) (kept a) (kept b))
+pub one_family_is : (a b : ObjectId) → in_one_family a b ≡ is_eq (family_cmp a.family b.family)
+one_family_is a b = sym (family_same a.family b.family (kept a) (kept b))

@@ -6,13 +6,13 @@ use Rattle.std.specs.declared.cmp.Ordering.TheVariants.{Less, Equal, Greater}
 use Rattle.std.specs.Ordering.{is_le, is_gt, nat_cmp, ordering_then}
 use Rattle.std.proofs.lemmas.List.Kept.{IsStrictlySortedBy-filter}
 use Rattle.std.proofs.lemmas.Map.Keys.{sorted_head, sorted_tail}
-use Rattle.pgs_name.specs.declared.family.Family.{Family}
+use Rattle.pgs_name.specs.Families.{Family}
 use Rattle.pgs_name.specs.declared.object_id.ObjectId.{ObjectId}
-use Rattle.pgs_range.specs.Order.{family_cmp}
+use Rattle.pgs_name.specs.Order.{family_cmp}
 use Rattle.pgs_range.specs.Ranges.{is_at_most}
 use Rattle.pgs_range.specs.declared.bound.Bound.{Bound}
 use Rattle.pgs_range.specs.declared.bound.Bound.TheVariants.{Min, At, Max}
-use Rattle.pgs_position.specs.Positions.{family_of_id, position_cmp}
+use Rattle.pgs_name.specs.Positions.{position_cmp}
 use Rattle.pgs_position.proofs.Families.{family_total}
 use Rattle.pgs_chunk.specs.Positions.{Ascends}
 use Rattle.pgs_chunk.specs.Selection.{from_start}
@@ -34,8 +34,8 @@ first_less Equal s h = refl
 first_less Greater s h = ap is_le h
 
 -- families don't fall where positions ascend
-pub family_upto : (a b : ObjectId) → position_cmp a b ≡ Less → is_le (family_cmp (family_of_id a) (family_of_id b)) ≡ true
-family_upto a b h = first_less (family_cmp (family_of_id a) (family_of_id b)) (nat_cmp a.snap b.snap) h
+pub family_upto : (a b : ObjectId) → position_cmp a b ≡ Less → is_le (family_cmp a.family b.family) ≡ true
+family_upto a b h = first_less (family_cmp a.family b.family) (nat_cmp a.snap b.snap) h
 
 -- what is at most a family is at most those above it
 at_most_above : (start : Bound) (f g : Family) → is_at_most start f ≡ true → is_le (family_cmp f g) ≡ true → is_at_most start g ≡ true
@@ -44,17 +44,17 @@ at_most_above (At s) f g h k = is_le_from (family_cmp s g) (upto family_total s 
 at_most_above Max f g h k = h
 
 -- where the first isn't below the start, all are counted
-pub starts_here : (start : Bound) (first : ObjectId) (more : List ObjectId) → Ascends (first ∷ more) → is_at_most start (family_of_id first) ≡ true
+pub starts_here : (start : Bound) (first : ObjectId) (more : List ObjectId) → Ascends (first ∷ more) → is_at_most start first.family ≡ true
     → first ∷ more ≡ from_start start (first ∷ more)
 starts_here start first more h e =
-    sym (filter_all (λ id. is_at_most start (family_of_id id)) (first ∷ more) (
+    sym (filter_all (λ id. is_at_most start id.family) (first ∷ more) (
       e,
-      all_weaker (λ id. position_cmp first id ≡ Less) (λ id. is_at_most start (family_of_id id) ≡ true)
-          (λ id l. at_most_above start (family_of_id first) (family_of_id id) e (family_upto first id l)) more (sorted_head position_cmp first more h),
+      all_weaker (λ id. position_cmp first id ≡ Less) (λ id. is_at_most start id.family ≡ true)
+          (λ id l. at_most_above start first.family id.family e (family_upto first id l)) more (sorted_head position_cmp first more h),
     ))
 
 -- where it is, the others are looked at
-pub starts_later : (start : Bound) (first : ObjectId) (more : List ObjectId) → is_at_most start (family_of_id first) ≡ false
+pub starts_later : (start : Bound) (first : ObjectId) (more : List ObjectId) → is_at_most start first.family ≡ false
     → from_start start more ≡ from_start start (first ∷ more)
 starts_later start first more e = sym (ap (λ b. cond b (first ∷ from_start start more) (from_start start more)) e)
 
@@ -63,6 +63,6 @@ ascends_later first more h = sorted_tail position_cmp first more h
 
 -- what is left of a list ascends as the list does
 pub left_ascends : (start : Bound) (listed rest : List ObjectId) → Ascends listed → rest ≡ from_start start listed → Ascends rest
-left_ascends start listed rest h e = rw e (IsStrictlySortedBy-filter position_cmp (λ id. is_at_most start (family_of_id id)) listed h)
+left_ascends start listed rest h e = rw e (IsStrictlySortedBy-filter position_cmp (λ id. is_at_most start id.family) listed h)
 
 pub ruleset starts = (starts_here, starts_later, ascends_later)

@@ -2,23 +2,23 @@
 use Rattle.std.specs.Prelude.{ℕ, Bool, true, false, not, nat_le, ◌&&◌, ◌||◌, List, [], ◌∷◌, ◌++◌, length, filter, IsTrue, ◌≡◌}
 use Rattle.std.specs.List.{list_all, list_any}
 use Rattle.pgs_name.specs.Families.{same_family}
-use Rattle.pgs_name.specs.declared.family.Family.{Family}
+use Rattle.pgs_name.specs.Families.{Family}
 use Rattle.pgs_name.specs.declared.object_id.ObjectId.{ObjectId}
 use Rattle.pgs_range.specs.Ranges.{is_at_most, is_above}
 use Rattle.pgs_range.specs.declared.bound.Bound.{Bound}
 use Rattle.pgs_range.specs.declared.bound.Bound.TheVariants.{Min, At, Max}
 use Rattle.pgs_range.specs.declared.family_range.FamilyRange.{FamilyRange}
-use Rattle.pgs_position.specs.Ends.{is_upto}
-use Rattle.pgs_position.specs.Positions.{family_of_id}
+use Rattle.pgs_range.specs.Ends.{is_upto}
+
 use Rattle.pgs_chunk.specs.Positions.{in_one_family, Ascends}
 
 -- the listed positions without those below the start
 abbrev pub from_start : Bound → List ObjectId → List ObjectId
-from_start start listed = filter (λ id. is_at_most start (family_of_id id)) listed
+from_start start listed = filter (λ id. is_at_most start id.family) listed
 
 -- the listed positions below a bound
 abbrev pub below : Bound → List ObjectId → List ObjectId
-below bound listed = filter (λ id. is_above bound (family_of_id id)) listed
+below bound listed = filter (λ id. is_above bound id.family) listed
 
 -- all are of one family, or there are none
 abbrev pub of_one_family : List ObjectId → Bool
@@ -31,7 +31,7 @@ fits limit listed bound = nat_le (length (below bound listed)) limit || of_one_f
 -- a listed family other than the first
 abbrev pub is_later_family : List ObjectId → Family → Bool
 is_later_family [] f = false
-is_later_family (first ∷ rest) f = not (same_family (family_of_id first) f) && list_any (λ id. same_family (family_of_id id) f) rest
+is_later_family (first ∷ rest) f = not (same_family first.family f) && list_any (λ id. same_family id.family f) rest
 
 -- where a chunk may end: at a listed family other than the first, or above all families
 abbrev pub is_candidate : List ObjectId → Bound → Bool

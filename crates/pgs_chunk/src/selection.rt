@@ -1,7 +1,7 @@
 ghost use Rattle.std.specs.Prelude.{◌≡◌, false, IsTrue, IfOk};
 ghost use Rattle.pgs_chunk.specs.Positions.{Ascends};
 ghost use Rattle.pgs_chunk.specs.Selection.{IsSelected, IsSettled, is_enough};
-ghost use Rattle.pgs_position.specs.Ends.{is_upto};
+ghost use Rattle.pgs_range.specs.Ends.{is_upto};
 ghost use Rattle.pgs_range.specs.declared.bound.Bound.TheVariants.{Max};
 
 use crate::ending::end_of;

@@ -1,6 +1,6 @@
 ghost use Rattle.std.specs.Prelude.{◌≡◌, IfOk};
 ghost use Rattle.pgs_chunk.specs.Positions.{Ascends};
-ghost use Rattle.pgs_position.specs.Positions.{family_of_id};
+
 ghost use Rattle.pgs_chunk.specs.Selection as selection;
 ghost use Rattle.pgs_range.specs.Ranges.{is_at_most};
 
@@ -26,7 +26,7 @@ pub fn from_start<'a>(listed: &'a [ObjectId], start: &Bound) -> Result<&'a [Obje
 
 // Whether a position isn't below the start.
 fn is_from(id: &ObjectId, start: &Bound) -> Result<bool, AllocError>
-    ensures { IfOk result (λ from. from ≡ is_at_most start.now (family_of_id id.now)) }
+    ensures { IfOk result (λ from. from ≡ is_at_most start.now id.now.family) }
 {
     let family = id.family()?;
     Ok(start.is_at_most(&family))

@@ -5,9 +5,9 @@ use Rattle.std.specs.List.{AllByRecursion}
 use Rattle.std.specs.List.Sorted.{IsStrictlySortedBy}
 use Rattle.std.specs.declared.cmp.Ordering.TheVariants.{Less, Equal}
 use Rattle.std.specs.Ordering.{nat_cmp, ordering_then}
-use Rattle.pgs_name.specs.declared.family.Family.{Family}
+use Rattle.pgs_name.specs.Families.{Family}
 use Rattle.pgs_name.specs.declared.object_id.ObjectId.{ObjectId}
-use Rattle.pgs_range.specs.Order.{family_cmp, place_of, text_cmp}
+use Rattle.pgs_name.specs.Order.{family_cmp, place_of, text_cmp}
 use Rattle.pgs_position.specs.Positions.{family_of_id, position_cmp}
 use Rattle.pgs_position.proofs.Families.{family_total}
 use Rattle.pgs_chunk.specs.Positions.{Ascends}

@@ -3,7 +3,7 @@ use Rattle.std.proofs.Common.{ℕ, zero, suc, ◌≡◌, ◌==◌, ◌+◌, ◌*
 use Rattle.std.proofs.lemmas.Nat.{xor_shr, xor_mod, xor_block, xor_comm, shl-shr, and_mask, div-add-mod'}
 use Rattle.std.proofs.Math.Nat.{pow-suc}
 use lib.Bits.{xor_assoc, xor_zero_r}
-use Rattle.pgs_name.specs.Digest.{bit_shifted, bits_shifted, fed, crc_from, crc}
+use Rattle.pgs_crc.specs.Digest.{bit_shifted, bits_shifted, fed, crc_from, crc}
 use Rattle.pgs_crc.specs.Table.{table_word}
 
 xor_zero_l : (a : ℕ) → bit_xor 0 a ≡ a

@@ -1,2 +1,3 @@
--- The words that tables of the digest hold.
+-- The digest of bytes, and the words that tables of it hold.
+pub mod Digest
 pub mod Table

@@ -1,5 +1,5 @@
 ghost use Rattle.std.specs.Prelude.{◌≡◌, ℕ, List, [], ◌++◌};
-ghost use Rattle.pgs_name.specs.Digest.{crc, crc_from, fed};
+ghost use Rattle.pgs_crc.specs.Digest.{crc, crc_from, fed};
 
 use crate::tables::Tables;
 use std::marker::Model;

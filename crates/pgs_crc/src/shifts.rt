@@ -1,11 +1,11 @@
 ghost use Rattle.std.specs.Prelude.{◌≡◌};
-ghost use Rattle.pgs_name.specs.Digest.{bit_shifted, fed};
+ghost use Rattle.pgs_crc.specs.Digest.{bit_shifted, fed};
 
 // The polynomial of CRC-32C, its bits reflected.
 const POLYNOMIAL: u32 = 0x82F6_3B78;
 
 // One bit further.
-#[tactic(auto, unfolding(pgs_name::specs::Digest::bit_shifted))]
+#[tactic(auto, unfolding(crate::specs::Digest::bit_shifted))]
 fn one_bit(word: u32) -> u32
     ensures { result ≡ bit_shifted word }
 {
@@ -17,7 +17,7 @@ fn one_bit(word: u32) -> u32
 }
 
 // What a byte of zeros makes of a word.
-#[tactic(auto, using(crate::proofs::Steps::more_bits, crate::proofs::Steps::no_bits), unfolding(pgs_name::specs::Digest::fed))]
+#[tactic(auto, using(crate::proofs::Steps::more_bits, crate::proofs::Steps::no_bits), unfolding(crate::specs::Digest::fed))]
 pub fn one_byte(word: u32) -> u32
     ensures { result ≡ fed word 0 }
 {

@@ -5,7 +5,7 @@ use Rattle.std.proofs.lemmas.List.Sums.{sum_by-cons, sum_by_push}
 use Rattle.std.proofs.lemmas.List.Folds.{list_any-append}
 use Rattle.pgs_bytes.proofs.Facts.{true_or_false, true_false}
 use Rattle.pgs_name.specs.Families.{same_family}
-use Rattle.pgs_name.specs.declared.family.Family.{Family}
+use Rattle.pgs_name.specs.Families.{Family}
 use Rattle.pgs_name.specs.declared.object_id.TheConstants.{HEAD}
 use Rattle.pgs_name.proofs.Families.{same_family_is, family_is_same}
 use Rattle.pgs_copy.specs.Copies.{after_effects}

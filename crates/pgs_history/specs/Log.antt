@@ -1,7 +1,7 @@
 -- The log of a group, by its events, the newest first: the items of the accepted writes.
 use Rattle.std.specs.Prelude.{ℕ, ◌+◌, List, [], ◌∷◌}
 use Rattle.std.specs.List.{sum_by}
-use Rattle.pgs_name.specs.declared.family.Family.{Family}
+use Rattle.pgs_name.specs.Families.{Family}
 use Rattle.pgs_name.specs.declared.object_id.TheConstants.{HEAD}
 use Rattle.pgs_store.specs.Stores.{Stored, nothing_stored, affected, noted, copy_size}
 use Rattle.pgs_request.specs.declared.req_id.ReqId.{ReqId}

@@ -1,7 +1,7 @@
 -- Devices, and what a call leaves of one.
 use Rattle.std.specs.Prelude.{ℕ, ◌≡◌, Bool, true, false, List, Option, IfSome, Result, Ok, Err}
 use Rattle.pgs_cause.specs.Count.{Rose}
-use Rattle.pgs_name.specs.declared.family.Family.{Family}
+use Rattle.pgs_name.specs.Families.{Family}
 use Rattle.pgs_copy.specs.declared.damage.Damage.{Damage}
 use Rattle.pgs_store.specs.Stores.{Stored, nothing_stored, affected, harmed}
 use Rattle.pgs_medium.specs.Calls.{Calls, one_more, after_answer, after_failure, is_named}

@@ -1,3 +1,6 @@
--- Laws of the refusals of a name, and of families.
+-- Laws of the refusals of a name, of families, and of the order.
 pub mod Named
 pub mod Families
+pub mod Turned
+pub mod Pieces
+pub mod Ordered

@@ -7,7 +7,7 @@ use Rattle.std.specs.Option.{is_none, option_or}
 use Rattle.std.proofs.lemmas.Bool.Decides.{nat_tests}
 use Rattle.std.proofs.lemmas.Iterator.Adapters.{position_from-zero}
 use Rattle.pgs_bytes.proofs.Facts.{both, joined, none_some, true_false}
-use Rattle.pgs_name.specs.Bounds.{plain_byte, is_plain, is_dash, is_word, is_name, is_snap, is_named, same_text, kept_key, is_kept}
+use Rattle.pgs_name.specs.Bounds.{plain_byte, is_plain, is_dash, is_word, is_name, is_snap, is_named}
 use Rattle.pgs_name.specs.Refusal.{bytes_refusal, word_refusal, name_refusal, snap_refusal, refusal_of}
 use Rattle.pgs_name.specs.declared.part.Part.{Part}
 use Rattle.pgs_name.specs.declared.part.Part.TheVariants.{Space, Key, Name}
@@ -119,37 +119,3 @@ pub named : (space key name : List ℕ) (snap : ℕ) → is_word 64 space ≡ tr
 named space key name snap s k n t =
     joined (is_word 64 space && is_word 255 key && is_name name) (is_snap snap)
     (joined (is_word 64 space && is_word 255 key) (is_name name) (joined (is_word 64 space) (is_word 255 key) s k) n) t
-
--- another key within its bounds, and one test more
-with_key : (a b other c d n : Bool) → (a && b && c && d) ≡ true → other ≡ true → n ≡ true → (a && other && c && d && n) ≡ true
-with_key a b other c d n e p q =
-    let last : (a && b && c ≡ true) × (d ≡ true) = both (a && b && c) d e in
-    let middle : (a && b ≡ true) × (c ≡ true) = both (a && b) c last.0 in
-    joined (a && other && c && d) n
-    (joined (a && other && c) d (joined (a && other) c (joined a other (both a b middle.0).0 p) middle.1) last.1) q
-
--- an empty key isn't the name
-not_empty : (name : List ℕ) → is_name name ≡ true → not (same_text [] name) ≡ true
-not_empty [] e = absurd (true_false (sym e))
-not_empty (b ∷ name) e = refl
-
-name_within : (space key name : List ℕ) (snap : ℕ) → is_named space key name snap ≡ true → is_name name ≡ true
-name_within space key name snap e =
-    (both (is_word 64 space && is_word 255 key) (is_name name) (both (is_word 64 space && is_word 255 key && is_name name) (is_snap snap) e).0).1
-
--- the kept key keeps the bounds, and isn't the name
-pub kept_is_kept : (space key name : List ℕ) (snap : ℕ) → is_named space key name snap ≡ true → is_kept space (kept_key key name) name snap ≡ true
-kept_is_kept space key name snap e =
-    let P : Bool → Type 0 = λ v. same_text key name ≡ v → is_kept space (cond v [] key) name snap ≡ true in
-    (elim (same_text key name) as P [
-      | true ↦ λ h. with_key (is_word 64 space) (is_word 255 key) (is_word 255 []) (is_name name) (is_snap snap) (not (same_text [] name)) e refl
-          (not_empty name (name_within space key name snap e))
-      | false ↦ λ h. with_key (is_word 64 space) (is_word 255 key) (is_word 255 key) (is_name name) (is_snap snap) (not (same_text key name)) e
-          (both (is_word 64 space) (is_word 255 key)
-          (both (is_word 64 space && is_word 255 key) (is_name name) (both (is_word 64 space && is_word 255 key && is_name name) (is_snap snap) e).0).0).1
-          (ap not h)
-    ]) refl
-
--- what was made of parts that are not refused
-pub made : (space key name : List ℕ) (snap : ℕ) (s k n : List ℕ) → refusal_of space key name snap ≡ None → s ≡ space → k ≡ kept_key key name → n ≡ name → is_kept s k n snap ≡ true
-made space key name snap s k n none p q r = rw (p, q, r) (kept_is_kept space key name snap (within_bounds space key name snap none))

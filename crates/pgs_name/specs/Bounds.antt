@@ -26,7 +26,3 @@ is_named space key name snap = is_word 64 space && is_word 255 key && is_name na
 -- the key as it is kept: empty where it is the name
 abbrev pub kept_key : List ℕ → List ℕ → List ℕ
 kept_key key name = if same_text key name then [] else key
-
--- the parts as they are kept: within their bounds, and the key isn't the name
-abbrev pub is_kept : List ℕ → List ℕ → List ℕ → ℕ → Bool
-is_kept space key name snap = is_named space key name snap && not (same_text key name)

@@ -1,5 +1,6 @@
 ghost use Rattle.std.specs.Prelude.{◌≡◌, ◌≢◌, IsTrue, IfOk, IfErr, OnOk, IsOkUnless, Some, None};
-ghost use Rattle.pgs_name.specs.Bounds.{is_named, is_kept, kept_key};
+ghost use Rattle.pgs_name.specs.Bounds.{is_named};
+ghost use Rattle.pgs_name.specs.Families.{family_named};
 ghost use Rattle.pgs_name.specs.Refusal.{refusal_of};
 
 use crate::family::Family;
@@ -11,18 +12,16 @@ use std::alloc::{AllocError, Global};
 /// The snap of a head: above that of every clone.
 pub const HEAD: u64 = u64::MAX - 1;
 
-/// The name of one stored object, a head or a clone. An empty key stands for the name itself.
-#[derive(Drop)]
+/// The position of one stored object, a head or a clone. Positions are ordered by family, then by snap.
+#[derive(PartialEq, Eq, PartialOrd, Ord, Drop)]
 pub struct ObjectId {
-    pub space: Bytes,
-    pub key: Bytes,
-    pub name: Bytes,
+    pub family: Family,
     pub snap: u64,
-    pub ghost named: { IsTrue (is_kept space key name snap) },
 }
 
 impl ObjectId {
-    /// Makes a name of its parts. They are looked at in the order of the parameters, and of each its length before its bytes.
+    /// Makes a name of its parts. They are looked at in the order of the parameters, and of each its length before its
+    /// bytes. A key that is the name is kept as an empty one is.
     pub fn new(
         alloc: Global,
         space: &[u8],
@@ -37,34 +36,35 @@ impl ObjectId {
         ensures within { OnOk result (IsTrue (is_named space.now key.now name.now snap)) }
         ensures only_memory { IsTrue (is_named space.now key.now name.now snap) → IsOkUnless result NameError.Memory }
 
-        ensures space { IfOk result (λ id. id.space ≡ space.now) }
-        ensures key { IfOk result (λ id. id.key ≡ kept_key key.now name.now) }
-        ensures name { IfOk result (λ id. id.name ≡ name.now) }
+        ensures family { IfOk result (λ id. id.family ≡ family_named space.now key.now name.now) }
         ensures snap { IfOk result (λ id. id.snap ≡ snap) }
     {
         if let Some(refusal) = refusals::refusal(space, key, name, snap) {
             return Err(refusal);
         }
         let space = Bytes::from_slice(alloc, space)?;
-        let key = Bytes::from_slice(alloc, refusals::kept(key, name))?;
+        let key = Bytes::from_slice(alloc, key)?;
         let name = Bytes::from_slice(alloc, name)?;
-        Ok(ObjectId {
-            space,
-            key,
-            name,
-            snap,
-        })
+        let family = Family::new(space, key, name)?;
+        Ok(ObjectId { family, snap })
     }
 
     /// The family that the object is of: its name without the snap.
     pub fn family(&self) -> Result<Family, AllocError>
-        ensures space { IfOk result (λ f. f.space ≡ self.now.space) }
-        ensures key { IfOk result (λ f. f.key ≡ self.now.key) }
-        ensures name { IfOk result (λ f. f.name ≡ self.now.name) }
+        ensures { IfOk result (λ f. f ≡ self.now.family) }
     {
-        let space = self.space.clone()?;
-        let key = self.key.clone()?;
-        let name = self.name.clone()?;
-        Ok(Family { space, key, name })
+        self.family.clone()
+    }
+}
+
+impl Clone for ObjectId {
+    ghost is_clone = { λ a b. b ≡ a };
+
+    fn clone(&self) -> Result<ObjectId, AllocError> {
+        let family = self.family.clone()?;
+        Ok(ObjectId {
+            family,
+            snap: self.snap,
+        })
     }
 }

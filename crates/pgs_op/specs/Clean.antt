@@ -1,6 +1,6 @@
 -- How the clean store is seen: by what it stores, and by the bytes that it holds.
 use Rattle.std.specs.Prelude.{ℕ, List}
-use Rattle.pgs_name.specs.declared.family.Family.{Family}
+use Rattle.pgs_name.specs.Families.{Family}
 use Rattle.pgs_name.specs.declared.object_id.TheConstants.{HEAD}
 use Rattle.pgs_store.specs.Stores.{Stored}
 use Rattle.pgs_store.specs.Kept.{stored, touched}

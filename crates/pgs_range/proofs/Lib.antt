@@ -1,3 +1,4 @@
--- Laws of the order.
-pub mod Turned
-pub mod Hashing
+-- Laws of bounds and ranges.
+pub mod Ends
+pub mod Tiles
+pub mod Rows

@@ -1,7 +1,6 @@
 ghost use Rattle.std.specs.Prelude.{◌≡◌};
 ghost use Rattle.pgs_range.specs.Ranges.{is_at_most, is_above};
 
-use crate::families::compare;
 use pgs_name::Family;
 use std::alloc::AllocError;
 
@@ -22,7 +21,7 @@ impl Bound {
     {
         match self {
             Bound::Min => true,
-            Bound::At { family: at } => compare(at, family).is_le(),
+            Bound::At { family: at } => at <= family,
             Bound::Max => false,
         }
     }
@@ -33,7 +32,7 @@ impl Bound {
     {
         match self {
             Bound::Min => false,
-            Bound::At { family: at } => compare(family, at).is_lt(),
+            Bound::At { family: at } => family < at,
             Bound::Max => true,
         }
     }

@@ -1,5 +1,5 @@
 ghost use Rattle.std.specs.Prelude.{◌≡◌};
-ghost use Rattle.pgs_range.specs.Ranges.{in_range};
+ghost use Rattle.pgs_range.specs.Ranges.{in_range, HoldsBetween};
 
 use crate::bound::Bound;
 use pgs_name::Family;
@@ -13,9 +13,13 @@ pub struct FamilyRange {
 }
 
 impl FamilyRange {
-    /// Whether a family lies in the range.
+    /// Whether a family lies in the range. It takes no memory.
+    #[tactic(auto, using(crate::proofs::Tiles::held_between))]
     pub fn in_range(&self, family: &Family) -> bool
-        ensures { result ≡ in_range self.now family.now }
+        ensures told { result ≡ in_range self.now family.now }
+
+        // What a range holds stands together.
+        ensures between { HoldsBetween self.now family.now }
     {
         self.from.is_at_most(family) && self.to.is_above(family)
     }

@@ -1,12 +1,12 @@
-//! The order of families, in which a group is scrubbed, and ranges in it.
+//! Bounds and ranges in the order of families, how they lie beside one another, and where a listing of positions goes on.
 #![tactic(auto)]
 
 mod bound;
-mod families;
+mod bounds;
+mod cursor;
 mod family_range;
-mod reversing;
 
 pub use bound::Bound;
-pub use families::{compare, hash};
+pub use bounds::{compare_bounds, is_within, split};
+pub use cursor::Cursor;
 pub use family_range::FamilyRange;
-pub use reversing::reverse_bits;

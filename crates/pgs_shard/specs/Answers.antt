@@ -1,6 +1,6 @@
 -- What a shard answers, and what it keeps.
 use Rattle.std.specs.Prelude.{ℕ, ◌≡◌, ◌+◌, ◌<◌, List, ◌∷◌, length, Option, Some, None, Result, Ok, Err}
-use Rattle.pgs_name.specs.declared.family.Family.{Family}
+use Rattle.pgs_name.specs.Families.{Family}
 use Rattle.pgs_copy.specs.declared.damage.Damage.{Damage}
 use Rattle.pgs_medium.specs.Device.{Device, IsWritten, IsDone, IsFailed}
 use Rattle.pgs_medium.specs.declared.item.Item.{Item}

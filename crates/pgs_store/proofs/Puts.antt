@@ -6,7 +6,7 @@ use Rattle.indexmap.specs.IndexMap.{insert_entry}
 use Rattle.std.specs.Ordering.{nat_cmp}
 use Rattle.std.specs.BTreeMap.{BTreeMap, get as copy_of}
 use Rattle.pgs_name.specs.Families.{same_family}
-use Rattle.pgs_name.specs.declared.family.Family.{Family}
+use Rattle.pgs_name.specs.Families.{Family}
 use Rattle.pgs_name.proofs.Families.{same_family_is}
 use Rattle.pgs_copy.specs.declared.obj_copy.ObjCopy.{ObjCopy}
 use Rattle.pgs_store.specs.Stores.{Stored, noted}

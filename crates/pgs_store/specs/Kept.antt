@@ -4,7 +4,7 @@ use Rattle.std.specs.Ordering.{nat_cmp}
 use Rattle.std.specs.BTreeMap.{BTreeMap, get as copy_of}
 use Rattle.indexmap.specs.IndexMap.{get, keys}
 use Rattle.pgs_name.specs.Families.{same_family}
-use Rattle.pgs_name.specs.declared.family.Family.{Family}
+use Rattle.pgs_name.specs.Families.{Family}
 use Rattle.pgs_copy.specs.Copies.{no_copies}
 use Rattle.pgs_copy.specs.declared.obj_copy.ObjCopy.{ObjCopy}
 use Rattle.pgs_store.specs.Stores.{Stored}

@@ -3,7 +3,7 @@ ghost use Rattle.std.specs.Option.{option_copied};
 ghost use Rattle.std.specs.Ordering.{nat_cmp};
 ghost use Rattle.std.specs.BTreeMap.{get};
 ghost use Rattle.pgs_name.specs.Families.{same_family};
-ghost use Rattle.pgs_name.specs.declared.family.Family.{Family as FamilyName};
+ghost use Rattle.pgs_name.specs.Families.{Family as FamilyName};
 ghost use Rattle.pgs_store.specs.Stores.{AreSame, nothing_stored, affected, harmed, noted};
 ghost use Rattle.pgs_store.specs.Kept.{stored, touched};
 

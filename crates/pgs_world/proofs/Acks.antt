@@ -11,7 +11,7 @@ use Rattle.pgs_request.specs.declared.answers.WriteAnswer.TheVariants.{Declined,
 use Rattle.pgs_request.specs.declared.answers.CollectAnswer.{CollectAnswer}
 use Rattle.pgs_request.specs.declared.answers.CollectAnswer.TheVariants.{Unknown, NotYet, Acked}
 use Rattle.pgs_copy.specs.declared.damage.Damage.{Damage as CopyDamage}
-use Rattle.pgs_name.specs.declared.family.Family.{Family}
+use Rattle.pgs_name.specs.Families.{Family}
 use Rattle.pgs_lines.specs.declared.object.Object.{Object}
 use Rattle.pgs_op.specs.declared.write.Write.{Write}
 use Rattle.pgs_op_log.specs.Logs.{same_id, version_in}

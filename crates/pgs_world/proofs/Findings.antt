@@ -5,7 +5,7 @@ use Rattle.pgs_medium.specs.declared.ram_medium.RamMedium.{RamMedium}
 use Rattle.pgs_shard.specs.State.{ShardState}
 use Rattle.pgs_shards.specs.Members.{Member}
 use Rattle.pgs_shards.specs.Kept.{seen}
-use Rattle.pgs_name.specs.declared.family.Family.{Family}
+use Rattle.pgs_name.specs.Families.{Family}
 use Rattle.pgs_name.specs.declared.object_id.TheConstants.{HEAD}
 use Rattle.pgs_store.specs.Stores.{Stored}
 use Rattle.pgs_shard.specs.Stores.{stored_by}

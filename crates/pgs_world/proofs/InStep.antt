@@ -9,7 +9,7 @@ use Rattle.pgs_request.specs.declared.answers.WriteAnswer.TheVariants.{Declined,
 use Rattle.pgs_request.specs.declared.answers.CollectAnswer.{CollectAnswer}
 use Rattle.pgs_request.specs.declared.answers.CollectAnswer.TheVariants.{Unknown, NotYet, Acked}
 use Rattle.pgs_copy.specs.declared.damage.Damage.{Damage as CopyDamage}
-use Rattle.pgs_name.specs.declared.family.Family.{Family}
+use Rattle.pgs_name.specs.Families.{Family}
 use Rattle.pgs_op.specs.declared.write.Write.{Write}
 use Rattle.pgs_op_log.specs.Logs.{newer}
 use Rattle.pgs_history.specs.Log.{log, item_of}

@@ -11,7 +11,7 @@ use Rattle.pgs_lines.specs.declared.apply_answer.ApplyAnswer.{ApplyAnswer}
 use Rattle.pgs_lines.specs.declared.apply_answer.ApplyAnswer.TheVariants as applies
 use Rattle.pgs_lines.specs.declared.done.Done.TheVariants as dones
 use Rattle.pgs_name.specs.Bounds.{kept_key}
-use Rattle.pgs_name.specs.declared.family.Family.{Family}
+use Rattle.pgs_name.specs.Families.{Family}
 use Rattle.pgs_name.specs.declared.object_id.TheConstants.{HEAD}
 use Rattle.pgs_copy.specs.declared.damage.Damage.{Damage}
 use Rattle.pgs_copy.specs.declared.damage.Damage.TheVariants.{Flip}

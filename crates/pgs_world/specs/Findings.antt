@@ -2,8 +2,8 @@
 use Rattle.std.specs.Prelude.{ℕ, ◌==◌, ◌&&◌, Bool, false, not, List, Option, Some, None, option_map, count_by}
 use Rattle.std.specs.List.{list_any}
 use Rattle.pgs_copy.specs.declared.obj_copy.ObjCopy.{ObjCopy}
-use Rattle.pgs_name.specs.Digest.{crc}
-use Rattle.pgs_name.specs.declared.family.Family.{Family}
+use Rattle.pgs_crc.specs.Digest.{crc}
+use Rattle.pgs_name.specs.Families.{Family}
 use Rattle.pgs_name.specs.declared.object_id.TheConstants.{HEAD}
 use Rattle.pgs_store.specs.Stores.{Stored}
 use Rattle.pgs_medium.specs.declared.item.Item.{Item}

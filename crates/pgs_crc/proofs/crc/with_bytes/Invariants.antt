@@ -1,5 +1,5 @@
 use Rattle.std.proofs.Common.{◌≡◌, drop}
-use Rattle.pgs_name.specs.Digest.{crc_from}
+use Rattle.pgs_crc.specs.Digest.{crc_from}
 use Rattle.pgs_crc.proofs.crc.with_bytes.Given as goal
 
 abbrev pub invariant-loop-byte : goal.invariant-loop-byte

@@ -1,5 +1,5 @@
 use Rattle.std.proofs.Common.{◌∙◌, ap}
-use Rattle.pgs_name.specs.Digest.{crc_from}
+use Rattle.pgs_crc.specs.Digest.{crc_from}
 use Rattle.pgs_crc.proofs.Steps.{in_pieces}
 use Rattle.pgs_crc.proofs.crc.Crc.update.Goals as goal
 

@@ -3,14 +3,14 @@ use Rattle.std.proofs.Common.{◌≡◌, ◌+◌, Bool, true, false, not, cond, 
 use Rattle.std.specs.Cmp.{tied_itself}
 use Rattle.std.specs.Ordering.{is_le}
 use Rattle.pgs_bytes.proofs.Facts.{true_false}
-use Rattle.pgs_name.specs.declared.family.Family.{Family}
+use Rattle.pgs_name.specs.Families.{Family}
 use Rattle.pgs_range.specs.Ranges.{is_at_most, is_above, in_range}
 use Rattle.pgs_range.specs.declared.bound.Bound.{Bound}
 use Rattle.pgs_range.specs.declared.family_range.FamilyRange.{FamilyRange}
-use Rattle.pgs_position.specs.Ends.{is_upto}
-use Rattle.pgs_position.specs.Rows.{AreInRow, times_held}
-use Rattle.pgs_position.proofs.Ends.{bound_total}
-use Rattle.pgs_position.proofs.Tiles.{above_or_at_most, upto_chain, in_one_range, in_both_ranges}
+use Rattle.pgs_range.specs.Ends.{is_upto}
+use Rattle.pgs_range.specs.Rows.{AreInRow, times_held}
+use Rattle.pgs_range.proofs.Ends.{bound_total}
+use Rattle.pgs_range.proofs.Tiles.{above_or_at_most, upto_chain, in_one_range, in_both_ranges}
 
 -- the first end of a row isn't above the last
 pub row_upto : (from : Bound) (ranges : List FamilyRange) (to : Bound) → AreInRow from ranges to → is_upto from to ≡ true

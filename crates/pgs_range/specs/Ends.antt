@@ -3,13 +3,12 @@ use Rattle.std.specs.Prelude.{Bool, true, false, ◌≡◌, ◌&&◌, ◌||◌}
 use Rattle.std.specs.declared.cmp.Ordering.{Ordering}
 use Rattle.std.specs.declared.cmp.Ordering.TheVariants.{Less, Equal, Greater}
 use Rattle.std.specs.Ordering.{is_le}
-use Rattle.pgs_name.specs.declared.family.Family.{Family}
-use Rattle.pgs_range.specs.Order.{family_cmp}
+use Rattle.pgs_name.specs.Order.{family_cmp}
 use Rattle.pgs_range.specs.Ranges.{in_range}
 use Rattle.pgs_range.specs.declared.bound.Bound.{Bound}
 use Rattle.pgs_range.specs.declared.bound.Bound.TheVariants.{Min, At, Max}
 use Rattle.pgs_range.specs.declared.family_range.FamilyRange.{FamilyRange}
-use Rattle.pgs_position.specs.Families.{is_alike}
+use Rattle.pgs_name.specs.Families.{Family, same_family}
 
 -- the least bound first, the greatest last, and between them by their families
 abbrev pub bound_cmp : Bound → Bound → Ordering
@@ -29,7 +28,7 @@ same_bound Min Min = true
 same_bound Min (At g) = false
 same_bound Min Max = false
 same_bound (At f) Min = false
-same_bound (At f) (At g) = is_alike f g
+same_bound (At f) (At g) = same_family f g
 same_bound (At f) Max = false
 same_bound Max Min = false
 same_bound Max (At g) = false

@@ -1,5 +1,5 @@
 ghost use Rattle.std.specs.Prelude.{◌≡◌};
-ghost use Rattle.pgs_range.specs.Order.{reversed};
+ghost use Rattle.pgs_name.specs.Order.{reversed};
 
 /// The word with its bits in the other order.
 #[tactic(auto, using(crate::proofs::Turned::reversed_at_once))]

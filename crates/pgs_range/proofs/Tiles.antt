@@ -5,17 +5,14 @@ use Rattle.std.specs.declared.cmp.Ordering.{Ordering}
 use Rattle.std.specs.declared.cmp.Ordering.TheVariants.{Less, Equal, Greater}
 use Rattle.std.specs.Ordering.{is_le, is_lt, is_gt, ordering_reverse}
 use Rattle.pgs_bytes.proofs.Facts.{both, joined, true_false}
-use Rattle.pgs_name.specs.declared.family.Family.{Family}
-use Rattle.pgs_name.specs.declared.object_id.ObjectId.{ObjectId}
-use Rattle.pgs_range.specs.Order.{family_cmp}
-use Rattle.pgs_range.specs.Ranges.{is_at_most, is_above, in_range}
+use Rattle.pgs_name.specs.Families.{Family}
+use Rattle.pgs_name.specs.Order.{family_cmp}
+use Rattle.pgs_range.specs.Ranges.{is_at_most, is_above, in_range, HoldsBetween}
 use Rattle.pgs_range.specs.declared.bound.Bound.{Bound}
 use Rattle.pgs_range.specs.declared.bound.Bound.TheVariants.{At}
 use Rattle.pgs_range.specs.declared.family_range.FamilyRange.{FamilyRange}
-use Rattle.pgs_position.specs.Ends.{bound_cmp, is_upto, is_within, AreTiles}
-use Rattle.pgs_position.specs.Positions.{family_of_id, HoldsBetween}
-use Rattle.pgs_position.proofs.Ordered.{by_family}
-use Rattle.pgs_position.proofs.Ends.{bound_total, at_most_is, above_is}
+use Rattle.pgs_range.specs.Ends.{bound_cmp, is_upto, is_within, AreTiles}
+use Rattle.pgs_range.proofs.Ends.{bound_total, at_most_is, above_is}
 
 lt_turned : (o : Ordering) → is_lt (ordering_reverse o) ≡ not (is_le o)
 lt_turned Less = refl
@@ -65,16 +62,11 @@ above_down b f g h e =
     above_or_at_most b f ∙ denied (is_at_most b f) (is_at_most b g) (at_most_up b f g h) (sym (above_or_at_most b g) ∙ e)
 
 -- a range holds what stands between two families that it holds
-pub held_between : (range : FamilyRange) (f g h : Family) → is_le (family_cmp f g) ≡ true → is_le (family_cmp g h) ≡ true
-    → in_range range f ≡ true → in_range range h ≡ true → in_range range g ≡ true
-held_between range f g h p q first last =
+pub held_between : (range : FamilyRange) (g : Family) → HoldsBetween range g
+held_between range g f h p q first last =
     joined (is_at_most range.from g) (is_above range.to g)
     (at_most_up range.from f g p (both (is_at_most range.from f) (is_above range.to f) first).0)
     (above_down range.to g h q (both (is_at_most range.from h) (is_above range.to h) last).1)
-
--- and touches what stands between two positions that it touches
-pub touched_between : (range : FamilyRange) (b : ObjectId) → HoldsBetween range b
-touched_between range b a c p q = held_between range (family_of_id a) (family_of_id b) (family_of_id c) (by_family a b p) (by_family b c q)
 
 -- tests that follow from one another, the last from the second and the second from the first
 in_one : (p q r : Bool) → (q ≡ true → p ≡ true) → (r ≡ true → q ≡ true) → (p && not r) ≡ ((p && not q) || (q && not r))

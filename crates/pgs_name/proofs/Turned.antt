@@ -2,7 +2,7 @@
 use Rattle.std.proofs.Common.{ℕ, zero, suc, ◌≡◌, ◌+◌, ◌*◌, ◌/◌, ◌%◌, ◌^◌, ap, ◌∙◌, arith}
 use Rattle.std.specs.Int.{reverse_bits, reverse_bits_onto, w32}
 use Rattle.std.proofs.Math.Nat.{pow-suc}
-use Rattle.pgs_range.specs.Order.{reversed}
+use Rattle.pgs_name.specs.Order.{reversed}
 
 one_more : (a power bit rest : ℕ) → (a * 2 + bit) * power + rest ≡ a * (power * 2) + (bit * power + rest)
 one_more a power bit rest = grind arith

@@ -1,17 +1,17 @@
 -- The order of bounds is total, from the least bound to the greatest.
-use Rattle.std.proofs.Common.{ℕ, ◌≡◌, true, List, [], ◌∷◌, refl, subst}
+use Rattle.std.proofs.Common.{ℕ, ◌≡◌, true, List, [], ◌∷◌, refl, sym, subst}
 use Rattle.std.specs.Cmp.{IsTotalOrder, nat_cmp_total, on_total, then_total}
 use Rattle.std.specs.Cmp.Lexicographic.{lists_total, slice_cmp}
 use Rattle.std.specs.declared.cmp.Ordering.{Ordering}
 use Rattle.std.specs.declared.cmp.Ordering.TheVariants.{Less, Equal, Greater}
 use Rattle.std.specs.Ordering.{is_eq, is_le, is_lt, nat_cmp, ordering_then}
-use Rattle.pgs_name.specs.declared.family.Family.{Family}
-use Rattle.pgs_range.specs.Order.{family_cmp}
+use Rattle.pgs_name.specs.Families.{Family}
+use Rattle.pgs_name.specs.Order.{family_cmp}
 use Rattle.pgs_range.specs.Ranges.{is_at_most, is_above}
 use Rattle.pgs_range.specs.declared.bound.Bound.{Bound}
 use Rattle.pgs_range.specs.declared.bound.Bound.TheVariants.{Min, At, Max}
-use Rattle.pgs_position.specs.Ends.{bound_cmp, same_bound, is_upto}
-use Rattle.pgs_position.proofs.Families.{family_total, family_alike}
+use Rattle.pgs_range.specs.Ends.{bound_cmp, same_bound, is_upto}
+use Rattle.pgs_name.specs.Total.{family_total, family_ties}
 
 -- a bound as a number, and the families beside it
 rank : Bound → ℕ
@@ -60,7 +60,7 @@ bound_same Min Min = refl
 bound_same Min (At g) = refl
 bound_same Min Max = refl
 bound_same (At f) Min = refl
-bound_same (At f) (At g) = family_alike f g
+bound_same (At f) (At g) = sym (family_ties f g)
 bound_same (At f) Max = refl
 bound_same Max Min = refl
 bound_same Max (At g) = refl

@@ -1,10 +1,10 @@
 -- Ranges in a row, the last first.
 use Rattle.std.specs.Prelude.{ℕ, ◌≡◌, ◌+◌, IsTrue, if◌then◌else◌, List, [], ◌∷◌}
-use Rattle.pgs_name.specs.declared.family.Family.{Family}
+use Rattle.pgs_name.specs.Families.{Family}
 use Rattle.pgs_range.specs.Ranges.{in_range}
 use Rattle.pgs_range.specs.declared.bound.Bound.{Bound}
 use Rattle.pgs_range.specs.declared.family_range.FamilyRange.{FamilyRange}
-use Rattle.pgs_position.specs.Ends.{is_upto}
+use Rattle.pgs_range.specs.Ends.{is_upto}
 
 -- each range begins where the one before it ended, the first at `from`, and the last ends at `to`
 abbrev pub AreInRow : Bound → List FamilyRange → Bound → Type 0

@@ -2,12 +2,11 @@ ghost use Rattle.std.specs.Prelude.{◌≡◌, IsTrue, IfOk};
 ghost use Rattle.std.specs.Cmp.{IsTotalOrder};
 ghost use Rattle.std.specs.Ordering.{is_eq};
 ghost use Rattle.pgs_range.specs.declared.bound.Bound.{Bound};
-ghost use Rattle.pgs_range.specs.declared.bound.Bound.TheVariants.{Min, At, Max};
-ghost use Rattle.pgs_position.specs.Ends.{bound_cmp, same_bound, is_upto, is_within, AreTiles};
-ghost use Rattle.pgs_position.specs.Positions.{family_of_id};
+ghost use Rattle.pgs_range.specs.declared.bound.Bound.TheVariants.{Min, Max};
+ghost use Rattle.pgs_range.specs.Ends.{bound_cmp, same_bound, is_upto, is_within, AreTiles};
 
-use pgs_name::ObjectId;
-use pgs_range::{Bound, FamilyRange, compare};
+use crate::bound::Bound;
+use crate::family_range::FamilyRange;
 use std::alloc::AllocError;
 use std::cmp::Ordering;
 
@@ -36,7 +35,7 @@ fn by_kind(a: &Bound, b: &Bound) -> Ordering
         },
         Bound::At { family: first } => match b {
             Bound::Min => Ordering::Greater,
-            Bound::At { family: second } => compare(first, second),
+            Bound::At { family: second } => first.cmp(second),
             Bound::Max => Ordering::Less,
         },
         Bound::Max => match b {
@@ -45,14 +44,6 @@ fn by_kind(a: &Bound, b: &Bound) -> Ordering
             Bound::Max => Ordering::Equal,
         },
     }
-}
-
-/// The bound at a position's family.
-pub fn bound_at(id: &ObjectId) -> Result<Bound, AllocError>
-    ensures { IfOk result (λ bound. bound ≡ At (family_of_id id.now)) }
-{
-    let family = id.family()?;
-    Ok(Bound::At { family })
 }
 
 /// Whether a bound lies at the ends of a range or between them.
