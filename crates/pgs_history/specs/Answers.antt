@@ -1,5 +1,5 @@
 -- The answers of a group, by the events before: the first row of a table whose condition holds.
-use Rattle.std.specs.Prelude.{ℕ, ◌+◌, nat_lt, max, List, [], ◌∷◌, length, Option, Some, None, option_map, find}
+use Rattle.std.specs.Prelude.{ℕ, ◌+◌, ◌==◌, ◌||◌, nat_lt, max, Bool, false, true, not, List, [], ◌∷◌, length, Option, Some, None, option_map, is_none, find, if◌then◌else◌}
 use Rattle.pgs_name.specs.declared.object_id.TheConstants.{HEAD}
 use Rattle.pgs_request.specs.declared.req_id.ReqId.{ReqId}
 use Rattle.pgs_request.specs.declared.version.Version.{Version}
@@ -13,8 +13,24 @@ use Rattle.pgs_request.specs.declared.answers.CollectAnswer.TheVariants.{Unknown
 use Rattle.pgs_op.specs.Effects.{first, refusal_of}
 use Rattle.pgs_op.specs.declared.write.Write.{Write}
 use Rattle.pgs_history.specs.Log.{clean, held, log, ids, log_bytes}
-use Rattle.pgs_op_log.specs.Logs.{version_in}
+use Rattle.pgs_op_log.specs.Logs.{version_in, greatest_in}
 use Rattle.pgs_history.specs.Members.{told}
+use Rattle.pgs_name.specs.declared.object_id.ObjectId.{ObjectId}
+use Rattle.pgs_range.specs.declared.bound.Bound.{Bound}
+use Rattle.pgs_range.specs.declared.bound.Bound.TheVariants.{Min, At, Max}
+use Rattle.pgs_chunk.specs.Ends.{chunk_of}
+use Rattle.pgs_map.specs.declared.scrub_map.ScrubMap.{ScrubMap}
+use Rattle.pgs_history.specs.Scrubs.{begun, running, opened, open_chunk, is_open, start, used, limit_now, is_firm, taken}
+use Rattle.pgs_history.specs.Findings.{findings_of}
+use Rattle.pgs_history.specs.declared.begin_answer.BeginAnswer.{BeginAnswer}
+use Rattle.pgs_history.specs.declared.begin_answer.BeginAnswer.TheVariants.{Busy, Began}
+use Rattle.pgs_history.specs.declared.chunk.Chunk.{Chunk}
+use Rattle.pgs_history.specs.declared.open_answer.OpenAnswer.{OpenAnswer}
+use Rattle.pgs_history.specs.declared.open_answer.OpenAnswer.TheVariants.{Already, Opened}
+use Rattle.pgs_history.specs.declared.take_answer.TakeAnswer.{TakeAnswer}
+use Rattle.pgs_history.specs.declared.take_answer.TakeAnswer.TheVariants.{Stale, Taken}
+use Rattle.pgs_history.specs.declared.close_answer.CloseAnswer.{CloseAnswer}
+use Rattle.pgs_history.specs.declared.close_answer.CloseAnswer.TheVariants as closes
 use Rattle.pgs_history.specs.declared.event.Event.{Event}
 use Rattle.pgs_history.specs.declared.made.Made.{Made}
 
@@ -69,3 +85,82 @@ last_number past = length (log past)
 -- the count that is answered to an OSD which tells one
 abbrev pub tell_answer : List Event → ℕ → ℕ → ℕ
 tell_answer past osd applied = max (told past osd) applied
+
+-- ---- begin
+
+abbrev pub begin_answered : Option ℕ → ℕ → BeginAnswer
+begin_answered (Some serial) count = Busy serial
+begin_answered None count = Began (count + 1)
+
+-- a scrub begins where none runs
+abbrev pub begin_answer : List Event → BeginAnswer
+begin_answer past = begin_answered (running past) (begun past)
+
+-- ---- open
+
+-- the chunk that is opened next, of a scrub and its primary's positions
+abbrev pub next_chunk : Made → List Event → ℕ → List ObjectId → Chunk
+next_chunk made past serial listed =
+    let range = chunk_of (limit_now made past) listed (start past) in
+    record {
+      number = opened past + 1;
+      serial = serial;
+      range = range;
+      version = greatest_in range (log past);
+      limit = limit_now made past;
+      firm = is_firm made past;
+    }
+
+abbrev pub open_answered : Option Chunk → Chunk → OpenAnswer
+open_answered (Some chunk) next = Already chunk.number
+open_answered None next = Opened next
+
+-- a chunk is opened where none is open
+abbrev pub open_answer : Made → List Event → ℕ → List ObjectId → OpenAnswer
+open_answer made past serial listed = open_answered (open_chunk past) (next_chunk made past serial listed)
+
+-- ---- take
+
+-- a map is taken where its chunk is open
+abbrev pub take_answer : List Event → ScrubMap → TakeAnswer
+take_answer past map = if is_open past map.chunk then Taken else Stale (option_map (λ chunk. chunk.number) (open_chunk past))
+
+-- ---- close
+
+-- the first acting OSD whose map of a chunk is missing
+abbrev pub missing : Made → List Event → ℕ → Option ℕ
+missing made past chunk = find (λ osd. is_none (taken past chunk osd)) made.members
+
+abbrev pub with_map : Option ScrubMap → List ScrubMap → List ScrubMap
+with_map None maps = maps
+with_map (Some map) maps = map ∷ maps
+
+-- the maps of a chunk that OSDs gave last
+abbrev pub maps_of : List Event → ℕ → List ℕ → List ScrubMap
+maps_of past chunk [] = []
+maps_of past chunk (osd ∷ osds) = with_map (taken past chunk osd) (maps_of past chunk osds)
+
+-- how many positions have a finding, by the maps of the acting OSDs
+abbrev pub found : Made → List Event → ℕ → ℕ
+found made past chunk = findings_of (clean (log past)) (maps_of past chunk made.members)
+
+abbrev pub is_greatest : Bound → Bool
+is_greatest Min = false
+is_greatest (At family) = false
+is_greatest Max = true
+
+-- whether a chunk, if there is one, ends above all families
+abbrev pub is_last : Option Chunk → Bool
+is_last None = false
+is_last (Some chunk) = is_greatest chunk.range.to
+
+abbrev pub close_complete : Option ℕ → ℕ → Bool → CloseAnswer
+close_complete (Some osd) findings completes = closes.NotYet osd
+close_complete None findings completes = closes.Closed findings completes
+
+-- a chunk is closed where it is open and no map is missing, and its scrub is complete where it ends above all families
+abbrev pub close_answer : Made → List Event → ℕ → CloseAnswer
+close_answer made past chunk =
+    if (chunk == 0) || nat_lt (opened past) chunk then closes.NoChunk
+    else (if not (is_open past chunk) then closes.ClosedBefore
+    else close_complete (missing made past chunk) (found made past chunk) (is_last (open_chunk past)))

@@ -1,6 +1,8 @@
 -- What the events of a group say.
 pub mod Log
 pub mod Members
+pub mod Scrubs
+pub mod Findings
 pub mod Answers
 pub mod After
 pub mod Legal

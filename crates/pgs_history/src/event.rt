@@ -1,5 +1,13 @@
+use crate::begin_answer::BeginAnswer;
+use crate::close_answer::CloseAnswer;
+use crate::open_answer::OpenAnswer;
+use crate::take_answer::TakeAnswer;
+use pgs_chunk::Kind;
+use pgs_map::ScrubMap;
+use pgs_name::ObjectId;
 use pgs_op::Write;
 use pgs_request::{ReqId, Version, WriteAnswer};
+use sqlite_items::Items;
 
 /// A kept event of a group. Answers that change nothing and are asked for again are no events.
 #[derive(Drop)]
@@ -33,5 +41,37 @@ pub enum Event {
         osd: u32,
         /// The number of the last applied item.
         applied: u64,
+    },
+    /// A scrub was to begin.
+    Begin {
+        /// What it was to look at.
+        kind: Kind,
+        /// Its answer.
+        answer: BeginAnswer,
+    },
+    /// A chunk of a scrub was to be opened.
+    Open {
+        /// The scrub.
+        serial: u64,
+        /// Positions of the primary, from where the chunk begins.
+        listed: Items<ObjectId>,
+        /// Its answer.
+        answer: OpenAnswer,
+    },
+    /// A member gave its map of a chunk.
+    Take {
+        /// How many events the member's shard had when the map was whole.
+        place: u64,
+        /// The map.
+        map: ScrubMap,
+        /// Its answer.
+        answer: TakeAnswer,
+    },
+    /// A chunk was to be closed, and no map was missing.
+    Close {
+        /// Its number.
+        chunk: u64,
+        /// Its answer.
+        answer: CloseAnswer,
     },
 }

@@ -1,8 +1,18 @@
-//! What happened to a group: its kept events, and what they say of its log, its members and the answers due.
+//! What happened to a group: its kept events, and what they say of its log, its members, its scrubs and the answers due.
 #![tactic(auto)]
 
+mod begin_answer;
+mod chunk;
+mod close_answer;
 mod event;
 mod made;
+mod open_answer;
+mod take_answer;
 
+pub use begin_answer::BeginAnswer;
+pub use chunk::Chunk;
+pub use close_answer::CloseAnswer;
 pub use event::Event;
 pub use made::Made;
+pub use open_answer::OpenAnswer;
+pub use take_answer::TakeAnswer;

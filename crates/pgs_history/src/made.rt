@@ -1,3 +1,4 @@
+use pgs_chunk::Limits;
 use sqlite_items::Items;
 
 /// What a group was made with.
@@ -9,4 +10,6 @@ pub struct Made {
     pub epoch: u32,
     /// Its members, each once. All of them are acting, and the first is the primary.
     pub members: Items<u32>,
+    /// How it is scrubbed.
+    pub limits: Limits,
 }

@@ -1,14 +1,18 @@
-use pgs_name::{HEAD, NameError, ObjectId};
-use pgs_position::{
-    bound_at, compare, compare_bounds, is_before, is_same_family, is_within, split, touches,
-};
-use pgs_range::{Bound, FamilyRange};
-use std::alloc::Global;
+use pgs_bytes::Bytes;
+use pgs_name::{Family, HEAD, NameError, ObjectId, compare, is_before, reverse_bits};
+use pgs_range::{Bound, Cursor, FamilyRange, compare_bounds, is_within, split};
+use std::alloc::{AllocError, Global};
 use std::cmp::Ordering;
 use std::test::Fail;
 
 fn position(alloc: Global, key: &[u8], name: &[u8], snap: u64) -> Result<ObjectId, NameError> {
     ObjectId::new(alloc, b"", key, name, snap)
+}
+
+fn family(alloc: Global, key: &[u8], name: &[u8]) -> Result<Family, AllocError> {
+    let key = Bytes::from_slice(alloc, key)?;
+    let name = Bytes::from_slice(alloc, name)?;
+    Family::new(Bytes::new(alloc), key, name)
 }
 
 fn whole() -> FamilyRange {
@@ -41,24 +45,71 @@ fn positions_in_order(rt: HostRuntime) -> Result<(), Fail> {
     Ok(())
 }
 
+// A key that is the name is written as an empty one.
+#[test]
+fn a_key_that_is_the_name(rt: HostRuntime) -> Result<(), Fail> {
+    let given = family(rt.alloc(), b"a", b"a")?;
+    assert!(rt; given.space().is_empty());
+    assert!(rt; given.kept_key().is_empty());
+    assert!(rt; given.key() == given.name());
+    Ok(())
+}
+
+#[test]
+fn one_family_of_both_spellings(rt: HostRuntime) -> Result<(), Fail> {
+    let given = family(rt.alloc(), b"a", b"a")?;
+    let plain = family(rt.alloc(), b"", b"a")?;
+    assert!(rt; given == plain);
+    assert_eq!(rt; reverse_bits(given.hash()), reverse_bits(plain.hash()));
+    Ok(())
+}
+
 #[test]
 fn a_range_is_parted_at_a_family(rt: HostRuntime) -> Result<(), Fail> {
     let alloc = rt.alloc();
-    let b = position(alloc, b"", b"b", 1)?;
-    let bound = bound_at(&b)?;
+    let bound = Bound::At {
+        family: family(alloc, b"", b"b")?,
+    };
     assert!(rt; is_within(&bound, &whole()));
     assert!(rt; compare_bounds(&bound, &Bound::Max) == Ordering::Less);
     let (first, second) = split(whole(), bound)?;
     let rows = [
-        (b"a".as_slice(), true, false),
-        (b"b".as_slice(), false, true),
-        (b"c".as_slice(), false, false),
+        (b"a".as_slice(), true),
+        (b"b".as_slice(), false),
+        (b"c".as_slice(), false),
     ];
-    for (name, before, same) in rows {
-        let id = position(alloc, b"", name, HEAD)?;
-        assert_eq!(rt; touches(&first, &id), before);
-        assert_eq!(rt; touches(&second, &id), !before);
-        assert_eq!(rt; is_same_family(&b, &id), same);
+    for (name, before) in rows {
+        let family = family(alloc, b"", name)?;
+        assert_eq!(rt; first.in_range(&family), before);
+        assert_eq!(rt; second.in_range(&family), !before);
     }
+    Ok(())
+}
+
+fn behind_a_clone(alloc: Global) -> Result<Cursor, NameError> {
+    let id = position(alloc, b"", b"b", 1)?;
+    Ok(Cursor::After { id })
+}
+
+#[test]
+fn a_listing_goes_on_behind_a_position(rt: HostRuntime) -> Result<(), Fail> {
+    let cursor = behind_a_clone(rt.alloc())?;
+    let head = position(rt.alloc(), b"", b"b", HEAD)?.clone()?;
+    assert!(rt; cursor.is_behind(&head));
+    Ok(())
+}
+
+#[test]
+fn a_listing_gives_no_position_twice(rt: HostRuntime) -> Result<(), Fail> {
+    let cursor = behind_a_clone(rt.alloc())?;
+    let clone = position(rt.alloc(), b"", b"b", 1)?;
+    assert!(rt; !cursor.is_behind(&clone));
+    Ok(())
+}
+
+#[test]
+fn a_position_gives_its_family(rt: HostRuntime) -> Result<(), Fail> {
+    let family = position(rt.alloc(), b"k", b"b", 1)?.family()?;
+    assert!(rt; family.key() == b"k".as_slice());
     Ok(())
 }
