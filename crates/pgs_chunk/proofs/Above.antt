@@ -19,7 +19,7 @@ use Rattle.pgs_range.specs.declared.bound.Bound.TheVariants.{Min, At, Max}
 use Rattle.pgs_range.specs.declared.family_range.FamilyRange.{FamilyRange}
 use Rattle.pgs_name.specs.Positions.{position_cmp}
 use Rattle.pgs_range.specs.Ends.{is_upto}
-use Rattle.pgs_position.proofs.Families.{family_total}
+use Rattle.pgs_name.specs.Total.{family_total}
 use Rattle.pgs_chunk.specs.Positions.{in_one_family, Ascends}
 use Rattle.pgs_chunk.specs.Selection.{from_start, is_later_family, is_candidate, IsSelected}
 use Rattle.pgs_chunk.proofs.Families.{one_family_is}
@@ -39,7 +39,7 @@ told_twice false p q = true_false (sym p)
 family_above : (first id : ObjectId) (f : Family) → position_cmp first id ≡ Less → same_family id.family f ≡ true
     → not (same_family first.family f) ≡ true → family_cmp first.family f ≡ Less
 family_above first id f l e n =
-    let one : family_of_id id ≡ f = same_family_is id.family f e in
+    let one : id.family ≡ f = same_family_is id.family f e in
     let apart : in_one_family first id ≡ false =
     elim (true_or_false (in_one_family first id)) [
       | inl same ↦ absurd (told_twice (same_family first.family f) (ap (same_family first.family) (sym one) ∙ same) n)
@@ -49,7 +49,7 @@ family_above first id f l e n =
     less_from (family_cmp first.family id.family) (family_upto first id l) (sym (one_family_is first id) ∙ apart) in
     ap (family_cmp first.family) (sym one) ∙ less
 
-later_above : (first : ObjectId) (rest : List ObjectId) (f : Family) → AllByRecursion (λ id. position_cmp first id ≡ Less) rest
+pub later_above : (first : ObjectId) (rest : List ObjectId) (f : Family) → AllByRecursion (λ id. position_cmp first id ≡ Less) rest
     → list_any (λ id. same_family id.family f) rest ≡ true → not (same_family first.family f) ≡ true → family_cmp first.family f ≡ Less
 later_above first [] f h e n = absurd (true_false (sym e))
 later_above first (id ∷ rest) f h e n =

@@ -11,7 +11,7 @@ use Rattle.std.specs.Ordering.{is_eq, is_le, is_lt, ordering_reverse}
 use Rattle.std.proofs.lemmas.Bool.Decides.{nat_tests}
 use Rattle.std.proofs.lemmas.List.{append-nil, append_assoc, length-append, take-append-drop}
 use Rattle.std.proofs.lemmas.List.Elements.{filter-append}
-use Rattle.pgs_bytes.proofs.Facts.{both, joined, true_false, heads, tails}
+use Rattle.pgs_bytes.proofs.Facts.{both, joined, true_false, true_or_false, heads, tails}
 use Rattle.pgs_chunk.proofs.Lists.{all_weaker, all_front, all_back, all_both, filter_all, filter_none, filter_shorter, all_filter, list_all_is, not_true, take_short, take_full, not_end, Found, found}
 
 -- an order, the other way round
@@ -284,3 +284,14 @@ module _ {X K : Type 0} (fam : X → K) (R : K → K → Ordering) (o : IsTotalO
       option_weaker (AllByRecursion (λ z. not (S x z) ≡ false) (drop limit (x ∷ xs))) (few limit (x ∷ xs) ≡ true) (Found (λ z. not (S x z)) (drop limit (x ∷ xs)))
       (IsCut limit (x ∷ xs)) (none_left limit x xs h) (cut_at limit x xs h) (find (λ z. not (S x z)) (drop limit (x ∷ xs)))
       (found (λ z. not (S x z)) (drop limit (x ∷ xs)))
+
+  -- where families never fall, all are of one family where the first and the last are
+  pub one_by_ends : (x : X) (mid : List X) (z : X) → Rises (x ∷ mid ++ z ∷ []) → one (x ∷ mid ++ z ∷ []) ≡ S x z
+  one_by_ends x mid z h =
+      elim (true_or_false (S x z)) [
+        | inl e ↦
+            one_from x (x ∷ mid ++ z ∷ [])
+            (itself x, all_both (λ w. S x w ≡ true) mid (z ∷ []) (all_between x z mid (all_front (λ w. Le (fam x) (fam w)) mid (z ∷ []) h.0) (rises_to mid z [] h.1) e) (e, tt))
+            ∙ sym e
+        | inr d ↦ apart x z (x ∷ mid ++ z ∷ []) (in_middle x [] (mid ++ z ∷ [])) (in_middle z (x ∷ mid) []) d ∙ sym d
+      ]

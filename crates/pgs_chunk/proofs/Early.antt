@@ -18,7 +18,7 @@ use Rattle.pgs_range.specs.declared.bound.Bound.TheVariants.{Min, At, Max}
 use Rattle.pgs_range.specs.declared.family_range.FamilyRange.{FamilyRange}
 use Rattle.pgs_name.specs.Positions.{position_cmp}
 use Rattle.pgs_range.specs.Ends.{is_upto}
-use Rattle.pgs_position.proofs.Families.{family_total}
+use Rattle.pgs_name.specs.Total.{family_total}
 use Rattle.pgs_chunk.specs.Positions.{in_one_family, Ascends}
 use Rattle.pgs_chunk.specs.Selection.{from_start, fits, is_later_family, is_candidate, IsEnd, IsSelected, is_enough, IsSettled}
 use Rattle.pgs_chunk.specs.Next.{next_position}
@@ -29,7 +29,7 @@ use Rattle.pgs_chunk.proofs.Ends.{ends_there, ends_nowhere}
 -- ---- there is one end
 
 -- a listed family is that of a position
-listed_family : (f : Family) (xs : List ObjectId) → list_any (λ id. same_family id.family f) xs ≡ true → (id : ObjectId) × (family_of_id id ≡ f)
+listed_family : (f : Family) (xs : List ObjectId) → list_any (λ id. same_family id.family f) xs ≡ true → (id : ObjectId) × (id.family ≡ f)
 listed_family f [] e = absurd (true_false (sym e))
 listed_family f (x ∷ xs) e =
     elim (true_or_false (same_family x.family f)) [
@@ -37,12 +37,12 @@ listed_family f (x ∷ xs) e =
       | inr other ↦ listed_family f xs (ap (λ b. b || list_any (λ id. same_family id.family f) xs) (sym other) ∙ e)
     ]
 
-later_family : (f : Family) (xs : List ObjectId) → is_later_family xs f ≡ true → (id : ObjectId) × (family_of_id id ≡ f)
+later_family : (f : Family) (xs : List ObjectId) → is_later_family xs f ≡ true → (id : ObjectId) × (id.family ≡ f)
 later_family f [] e = absurd (true_false (sym e))
 later_family f (first ∷ rest) e =
     listed_family f rest (both (not (same_family first.family f)) (list_any (λ id. same_family id.family f) rest) e).1
 
-one_family : (f g : Family) (a b : ObjectId) → family_of_id a ≡ f → family_of_id b ≡ g → is_le (family_cmp f g) ≡ true → is_le (family_cmp g f) ≡ true → f ≡ g
+one_family : (f g : Family) (a b : ObjectId) → a.family ≡ f → b.family ≡ g → is_le (family_cmp f g) ≡ true → is_le (family_cmp g f) ≡ true → f ≡ g
 one_family f g a b p q h k =
     let level : is_eq (family_cmp f g) ≡ true = squeezed (family_cmp f g) h (ap is_le (sym (family_total.antisymm g f)) ∙ k) in
     let same : in_one_family a b ≡ true = one_family_is a b ∙ (λ i. is_eq (family_cmp (p i) (q i))) ∙ level in

@@ -7,3 +7,7 @@ pub mod Starts
 pub mod Ends
 pub mod Above
 pub mod Early
+pub mod Chunks
+pub mod Ordered
+pub mod Listings
+pub mod Members

@@ -13,7 +13,7 @@ use Rattle.pgs_range.specs.Ranges.{is_at_most}
 use Rattle.pgs_range.specs.declared.bound.Bound.{Bound}
 use Rattle.pgs_range.specs.declared.bound.Bound.TheVariants.{Min, At, Max}
 use Rattle.pgs_name.specs.Positions.{position_cmp}
-use Rattle.pgs_position.proofs.Families.{family_total}
+use Rattle.pgs_name.specs.Total.{family_total}
 use Rattle.pgs_chunk.specs.Positions.{Ascends}
 use Rattle.pgs_chunk.specs.Selection.{from_start}
 use Rattle.pgs_chunk.proofs.Lists.{all_weaker, filter_all}

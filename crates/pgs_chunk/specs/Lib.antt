@@ -3,3 +3,5 @@ pub mod Limits
 pub mod Positions
 pub mod Selection
 pub mod Next
+pub mod Chunk
+pub mod Listings

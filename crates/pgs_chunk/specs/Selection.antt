@@ -9,7 +9,6 @@ use Rattle.pgs_range.specs.declared.bound.Bound.{Bound}
 use Rattle.pgs_range.specs.declared.bound.Bound.TheVariants.{Min, At, Max}
 use Rattle.pgs_range.specs.declared.family_range.FamilyRange.{FamilyRange}
 use Rattle.pgs_range.specs.Ends.{is_upto}
-
 use Rattle.pgs_chunk.specs.Positions.{in_one_family, Ascends}
 
 -- the listed positions without those below the start

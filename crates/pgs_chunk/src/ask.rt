@@ -1,4 +1,5 @@
 use pgs_range::FamilyRange;
+use std::alloc::AllocError;
 
 /// What a member is asked for where a chunk is open.
 #[derive(Drop)]
@@ -13,4 +14,21 @@ pub struct Ask {
     pub needed: u64,
     /// Whether data is read.
     pub deep: bool,
+}
+
+impl Clone for Ask {
+    ghost use Rattle.std.specs.Prelude.{◌≡◌};
+
+    ghost is_clone = { λ a b. b ≡ a };
+
+    fn clone(&self) -> Result<Ask, AllocError> {
+        let range = self.range.clone()?;
+        Ok(Ask {
+            serial: self.serial,
+            chunk: self.chunk,
+            range,
+            needed: self.needed,
+            deep: self.deep,
+        })
+    }
 }

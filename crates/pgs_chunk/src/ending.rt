@@ -1,22 +1,21 @@
 ghost use Rattle.std.specs.Prelude.{◌≡◌, drop, IfOk};
 ghost use Rattle.std.specs.Option.{option_copied};
-ghost use Rattle.pgs_chunk.specs.Positions.{Ascends};
-ghost use Rattle.pgs_chunk.specs.Selection.{IsEnd};
+ghost use Rattle.pgs_chunk.specs.Chunk.{bound_at};
 ghost use Rattle.pgs_chunk.specs.Next as next;
 
 use pgs_name::ObjectId;
-use pgs_position::{bound_at, is_same_family};
 use pgs_range::Bound;
 use std::alloc::AllocError;
 
 /// Where the chunk of these positions ends.
-#[tactic(auto, using(crate::proofs::Ends::ends))]
 pub fn end_of(listed: &[ObjectId], limit: u32) -> Result<Bound, AllocError>
-    requires ascends { Ascends listed.now }
-    ensures { IfOk result (λ end. IsEnd limit listed.now end) }
+    ensures { IfOk result (λ end. end ≡ bound_at (next.next_position limit listed.now)) }
 {
     match next_position(listed, limit as usize) {
-        Some(id) => bound_at(id),
+        Some(id) => {
+            let family = id.family.clone()?;
+            Ok(Bound::At { family })
+        }
         None => Ok(Bound::Max),
     }
 }
@@ -38,5 +37,5 @@ fn other_than<'a>(first: &ObjectId, listed: &'a [ObjectId], passed: usize) -> Op
     listed
         .iter()
         .skip(passed)
-        .find(|id| !is_same_family(first, *id))
+        .find(|id| first.family != id.family)
 }

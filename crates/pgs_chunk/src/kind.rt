@@ -1,5 +1,5 @@
 /// What a scrub looks at, and whether it mends what it finds.
-#[derive(Drop)]
+#[derive(Clone, Copy, PartialEq)]
 pub enum Kind {
     /// Names, sizes and attributes.
     Shallow,

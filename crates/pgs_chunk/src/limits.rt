@@ -2,7 +2,7 @@ ghost use Rattle.std.specs.Prelude.{◌≡◌, ◌/◌, ◌^◌};
 ghost use Rattle.pgs_chunk.specs.Limits as defined;
 
 /// How many positions a chunk has, and how often it gives way to writes.
-#[derive(Drop)]
+#[derive(Clone, Copy)]
 pub struct Limits {
     /// The least limit of positions.
     pub chunk_min: u32,

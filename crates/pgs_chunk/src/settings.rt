@@ -4,7 +4,7 @@ ghost use Rattle.pgs_chunk.specs.Limits as defined;
 use crate::limits::Limits;
 
 /// How a group is scrubbed.
-#[derive(Drop)]
+#[derive(Clone, Copy)]
 pub struct Settings {
     pub limits: Limits,
     /// How many bytes are read at a time.
