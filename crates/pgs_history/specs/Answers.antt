@@ -1,5 +1,6 @@
 -- The answers of a group, by the events before: the first row of a table whose condition holds.
-use Rattle.std.specs.Prelude.{ℕ, ◌+◌, ◌==◌, ◌||◌, nat_lt, max, Bool, false, true, not, List, [], ◌∷◌, length, Option, Some, None, option_map, is_none, find, if◌then◌else◌}
+use Rattle.std.specs.Prelude.{ℕ, ◌+◌, ◌==◌, ◌||◌, nat_lt, max, Bool, false, true, not, List, [], ◌∷◌, length, Option, Some, None, option_map, is_none, find, if◌then◌else◌, slice_get}
+use Rattle.std.specs.Bool.{then_some}
 use Rattle.pgs_name.specs.declared.object_id.TheConstants.{HEAD}
 use Rattle.pgs_request.specs.declared.req_id.ReqId.{ReqId}
 use Rattle.pgs_request.specs.declared.version.Version.{Version}
@@ -18,9 +19,9 @@ use Rattle.pgs_history.specs.Members.{told}
 use Rattle.pgs_name.specs.declared.object_id.ObjectId.{ObjectId}
 use Rattle.pgs_range.specs.declared.bound.Bound.{Bound}
 use Rattle.pgs_range.specs.declared.bound.Bound.TheVariants.{Min, At, Max}
-use Rattle.pgs_chunk.specs.Ends.{chunk_of}
+use Rattle.pgs_chunk.specs.Chunk.{chunk_of}
 use Rattle.pgs_map.specs.declared.scrub_map.ScrubMap.{ScrubMap}
-use Rattle.pgs_history.specs.Scrubs.{begun, running, opened, open_chunk, is_open, start, used, limit_now, is_firm, taken}
+use Rattle.pgs_history.specs.Scrubs.{begun, running, opened, open_chunk, has_number, is_open, start, used, limit_now, is_firm, taken}
 use Rattle.pgs_history.specs.Findings.{findings_of}
 use Rattle.pgs_history.specs.declared.begin_answer.BeginAnswer.{BeginAnswer}
 use Rattle.pgs_history.specs.declared.begin_answer.BeginAnswer.TheVariants.{Busy, Began}
@@ -86,6 +87,12 @@ last_number past = length (log past)
 abbrev pub tell_answer : List Event → ℕ → ℕ → ℕ
 tell_answer past osd applied = max (told past osd) applied
 
+-- ---- members
+
+-- the first acting OSD
+abbrev pub primary : Made → Option ℕ
+primary made = slice_get made.members 0
+
 -- ---- begin
 
 abbrev pub begin_answered : Option ℕ → ℕ → BeginAnswer
@@ -121,9 +128,12 @@ open_answer made past serial listed = open_answered (open_chunk past) (next_chun
 
 -- ---- take
 
+abbrev pub taken_by : Option Chunk → ℕ → TakeAnswer
+taken_by now chunk = if has_number now chunk then Taken else Stale (option_map (λ c. c.number) now)
+
 -- a map is taken where its chunk is open
 abbrev pub take_answer : List Event → ScrubMap → TakeAnswer
-take_answer past map = if is_open past map.chunk then Taken else Stale (option_map (λ chunk. chunk.number) (open_chunk past))
+take_answer past map = taken_by (open_chunk past) map.chunk
 
 -- ---- close
 
@@ -154,13 +164,18 @@ abbrev pub is_last : Option Chunk → Bool
 is_last None = false
 is_last (Some chunk) = is_greatest chunk.range.to
 
-abbrev pub close_complete : Option ℕ → ℕ → Bool → CloseAnswer
-close_complete (Some osd) findings completes = closes.NotYet osd
-close_complete None findings completes = closes.Closed findings completes
+-- why a chunk isn't closed: it was never opened, it isn't open any more, or a map is missing
+unfoldable pub unclosed : Made → List Event → ℕ → Option CloseAnswer
+unclosed made past chunk = first (
+    then_some ((chunk == 0) || nat_lt (opened past) chunk) closes.NoChunk
+    ∷ then_some (not (is_open past chunk)) closes.ClosedBefore
+    ∷ option_map (λ osd. closes.NotYet osd) (missing made past chunk)
+    ∷ [])
 
--- a chunk is closed where it is open and no map is missing, and its scrub is complete where it ends above all families
+abbrev pub or_closed : Option CloseAnswer → ℕ → Bool → CloseAnswer
+or_closed (Some why) findings completes = why
+or_closed None findings completes = closes.Closed findings completes
+
+-- a closed chunk completes its scrub where it ends above all families
 abbrev pub close_answer : Made → List Event → ℕ → CloseAnswer
-close_answer made past chunk =
-    if (chunk == 0) || nat_lt (opened past) chunk then closes.NoChunk
-    else (if not (is_open past chunk) then closes.ClosedBefore
-    else close_complete (missing made past chunk) (found made past chunk) (is_last (open_chunk past)))
+close_answer made past chunk = or_closed (unclosed made past chunk) (found made past chunk) (is_last (open_chunk past))

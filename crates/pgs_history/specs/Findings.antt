@@ -1,6 +1,6 @@
 -- Which positions have a finding, by the maps of a chunk.
 use Rattle.std.specs.Prelude.{ℕ, ◌==◌, ◌&&◌, Bool, false, not, List, [], ◌∷◌, Option, Some, None, option_map, count_by}
-use Rattle.std.specs.List.{list_any, fold}
+use Rattle.std.specs.List.{list_any}
 use Rattle.pgs_crc.specs.Digest.{crc}
 use Rattle.pgs_name.specs.declared.object_id.ObjectId.{ObjectId}
 use Rattle.pgs_copy.specs.declared.obj_copy.ObjCopy.{ObjCopy}
@@ -12,15 +12,19 @@ use Rattle.pgs_map.specs.declared.scrub_map.ScrubMap.{ScrubMap}
 
 -- ---- the positions of maps
 
--- the positions of entries, put in their places
-abbrev pub with_entries : List Entry → List ObjectId → List ObjectId
-with_entries [] ids = ids
-with_entries (entry ∷ entries) ids = placed entry.id (with_entries entries ids)
+-- some positions, and those of entries, each once and in order
+abbrev pub with_entries : List ObjectId → List Entry → List ObjectId
+with_entries ids [] = ids
+with_entries ids (entry ∷ entries) = with_entries (placed entry.id ids) entries
 
--- the positions that have an entry in some map, each once and in order
+-- some positions, and those of the entries of maps
+abbrev pub with_maps : List ObjectId → List ScrubMap → List ObjectId
+with_maps ids [] = ids
+with_maps ids (map ∷ maps) = with_maps (with_entries ids map.entries) maps
+
+-- the positions that have an entry in some map
 abbrev pub positions_of : List ScrubMap → List ObjectId
-positions_of [] = []
-positions_of (map ∷ maps) = with_entries map.entries (positions_of maps)
+positions_of maps = with_maps [] maps
 
 -- ---- which of them have a finding
 

@@ -1,0 +1,181 @@
+//! The steps of a group's scrubs.
+ghost use Rattle.std.specs.Prelude.{◌≡◌, true, is_some, IfOk, OnOk, OnErr, Some};
+ghost use Rattle.pgs_chunk.specs.Positions.{Ascends};
+ghost use Rattle.pgs_map.specs.Entries.{AreInRange};
+ghost use Rattle.pgs_history.specs.Scrubs.{running};
+ghost use Rattle.pgs_history.specs.Answers.{begin_answer, open_answer, take_answer, close_answer, unclosed, found, next_chunk, primary};
+ghost use Rattle.pgs_history.specs.After.{after_begin, after_open, after_take, after_close};
+ghost use Rattle.pgs_history.specs.Legal.{IsLegal};
+ghost use Rattle.pgs_group.specs.Steps.{IsNextChunk};
+
+use super::Group;
+use crate::finding::count;
+use crate::next_chunk::NextChunk;
+use crate::taken::first_missing;
+use pgs_chunk::{Kind, limit_after, select};
+use pgs_history::{BeginAnswer, Chunk, CloseAnswer, Event, OpenAnswer, TakeAnswer};
+use pgs_map::ScrubMap;
+use pgs_name::ObjectId;
+use pgs_range::Bound;
+use sqlite_items::Items;
+use std::alloc::AllocError;
+
+impl Group {
+    /// Begins a scrub, unless one runs.
+    #[tactic(auto, using(crate::proofs::Scrubs::begun_most))]
+    pub fn begin(&mut self, kind: Kind) -> Result<BeginAnswer, AllocError>
+        ensures answer { IfOk result (λ a. a ≡ begin_answer self.old.past) }
+        ensures kept { OnOk result (self.new ≡ record self.old { past = after_begin self.old.past kind }) }
+        ensures err { OnErr result (self.new ≡ self.old) }
+        ensures legal { IsLegal self.old.made self.old.past → IsLegal self.new.made self.new.past }
+    {
+        self.events.reserve(1)?;
+        if let Some(serial) = self.scrubs.running {
+            let answer = BeginAnswer::Busy { serial };
+            self.events.push_reserved(Event::Begin { kind, answer });
+            return Ok(answer);
+        }
+        let serial = self.scrubs.begin();
+        let answer = BeginAnswer::Began { serial };
+        self.events.push_reserved(Event::Begin { kind, answer });
+        Ok(answer)
+    }
+
+    /// Where and how the next chunk of the running scrub is to be opened. It adds no event.
+    pub fn next_chunk(&self, serial: u64) -> Result<NextChunk, AllocError>
+        requires running { running self.now.past ≡ Some serial }
+        requires some { is_some (primary self.now.made) ≡ true }
+        ensures { IfOk result (λ next. IsNextChunk self.now.made self.now.past next) }
+    {
+        if let Some(open) = &self.scrubs.open {
+            return Ok(NextChunk::Already { chunk: open.number });
+        }
+        let Some(primary) = self.made.members.as_slice().first() else {
+            unreachable!()
+        };
+        let start = self.scrubs.start.clone()?;
+        Ok(NextChunk::Next {
+            primary: *primary,
+            start,
+            limit: limit_after(&self.made.limits, 0),
+        })
+    }
+
+    // The chunk that begins where the last one ended.
+    #[tactic(auto, using(crate::proofs::Scrubs::opened_most))]
+    fn chunk_next(&self, serial: u64, listed: &[ObjectId]) -> Result<Chunk, AllocError>
+        requires ascends { Ascends listed.now }
+        ensures { IfOk result (λ chunk. chunk ≡ next_chunk self.now.made self.now.past serial listed.now) }
+    {
+        let limit = limit_after(&self.made.limits, 0);
+        let range = select(listed, &self.scrubs.start, limit)?;
+        let version = self.log.newest_in(&range);
+        Ok(Chunk {
+            number: self.scrubs.opened + 1,
+            serial,
+            range,
+            version,
+            limit,
+            firm: 0 == self.made.limits.preemptions,
+        })
+    }
+
+    /// Opens a chunk of the running scrub, unless one is open. The positions are the primary's, from the chunk's start on.
+    pub fn open(&mut self, serial: u64, listed: Items<ObjectId>) -> Result<OpenAnswer, AllocError>
+        requires running { running self.old.past ≡ Some serial }
+        requires ascends { Ascends listed }
+        ensures answer { IfOk result (λ a. a ≡ open_answer self.old.made self.old.past serial listed) }
+        ensures kept { OnOk result (self.new ≡ record self.old { past = after_open self.old.made self.old.past serial listed }) }
+        ensures err { OnErr result (self.new ≡ self.old) }
+        ensures legal { IsLegal self.old.made self.old.past → IsLegal self.new.made self.new.past }
+    {
+        self.events.reserve(1)?;
+        if let Some(open) = &self.scrubs.open {
+            let chunk = open.number;
+            let answer = OpenAnswer::Already { chunk };
+            self.events.push_reserved(Event::Open {
+                serial,
+                listed,
+                answer,
+            });
+            return Ok(OpenAnswer::Already { chunk });
+        }
+        let chunk = self.chunk_next(serial, listed.as_slice())?;
+        let kept = chunk.clone()?;
+        let answered = chunk.clone()?;
+        self.scrubs.open(chunk);
+        self.events.push_reserved(Event::Open {
+            serial,
+            listed,
+            answer: OpenAnswer::Opened { chunk: kept },
+        });
+        Ok(OpenAnswer::Opened { chunk: answered })
+    }
+
+    /// Takes a member's map of a chunk, where that is open.
+    pub fn take(&mut self, place: u64, map: ScrubMap) -> Result<TakeAnswer, AllocError>
+        requires in_order { AreInRange map.range map.entries }
+        ensures answer { IfOk result (λ a. a ≡ take_answer self.old.past map) }
+        ensures kept { OnOk result (self.new ≡ record self.old { past = after_take self.old.past place map }) }
+        ensures err { OnErr result (self.new ≡ self.old) }
+        ensures legal { IsLegal self.old.made self.old.past → IsLegal self.new.made self.new.past }
+    {
+        self.events.reserve(1)?;
+        let answer = self.scrubs.take_answer(map.chunk);
+        self.events.push_reserved(Event::Take { place, map, answer });
+        Ok(answer)
+    }
+
+    // Why a chunk isn't closed, if it isn't.
+    #[tactic(auto, unfolding(pgs_history::specs::Answers::unclosed))]
+    fn not_closed(&self, chunk: u64) -> Option<CloseAnswer>
+        ensures { result ≡ unclosed self.now.made self.now.past chunk }
+    {
+        if chunk == 0 || self.scrubs.opened < chunk {
+            return Some(CloseAnswer::NoChunk);
+        }
+        if !self.scrubs.is_open(chunk) {
+            return Some(CloseAnswer::ClosedBefore);
+        }
+        match first_missing(self.events.as_slice(), chunk, self.made.members.as_slice()) {
+            Some(osd) => Some(CloseAnswer::NotYet { osd }),
+            None => None,
+        }
+    }
+
+    // How many positions of a chunk have a finding.
+    fn found(&self, chunk: u64) -> Result<u64, AllocError>
+        ensures { IfOk result (λ n. n ≡ found self.now.made self.now.past chunk) }
+    {
+        let members = self.made.members.as_slice();
+        count(
+            self.alloc,
+            &self.clean,
+            self.events.as_slice(),
+            chunk,
+            members,
+        )
+    }
+
+    /// Closes a chunk, where it is open and no acting OSD's map of it is missing.
+    pub fn close(&mut self, chunk: u64) -> Result<CloseAnswer, AllocError>
+        ensures answer { IfOk result (λ a. a ≡ close_answer self.old.made self.old.past chunk) }
+        ensures kept { OnOk result (self.new ≡ record self.old { past = after_close self.old.made self.old.past chunk }) }
+        ensures err { OnErr result (self.new ≡ self.old) }
+        ensures legal { IsLegal self.old.made self.old.past → IsLegal self.new.made self.new.past }
+    {
+        self.events.reserve(1)?;
+        if let Some(answer) = self.not_closed(chunk) {
+            if let CloseAnswer::NotYet { .. } = answer {
+                return Ok(answer);
+            }
+            self.events.push_reserved(Event::Close { chunk, answer });
+            return Ok(answer);
+        }
+        let findings = self.found(chunk)?;
+        let completes = self.scrubs.close();
+        let answer = CloseAnswer::Closed { findings, completes };
+        self.events.push_reserved(Event::Close { chunk, answer });
+        Ok(answer)
+    }
+}

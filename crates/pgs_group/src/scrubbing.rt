@@ -1,0 +1,94 @@
+ghost use Rattle.std.specs.Prelude.{◌≡◌, ◌+◌, ◌<◌, ◌^◌, Some};
+ghost use Rattle.pgs_history.specs.Scrubs.{has_number};
+ghost use Rattle.pgs_history.specs.Answers.{is_greatest, is_last, taken_by};
+ghost use Rattle.pgs_range.specs.declared.bound.Bound.TheVariants.{Min};
+ghost use Rattle.pgs_group.specs.Scrubbing.{closed};
+
+use pgs_history::{Chunk, TakeAnswer};
+use pgs_range::Bound;
+
+/// Where the scrubs of a group are.
+#[derive(Drop)]
+pub struct Scrubbing {
+    /// How many scrubs began.
+    pub begun: u64,
+    /// How many chunks were opened.
+    pub opened: u64,
+    /// The scrub that runs.
+    pub running: Option<u64>,
+    /// The chunk that is open.
+    pub open: Option<Chunk>,
+    /// Where the next chunk begins.
+    pub start: Bound,
+}
+
+impl Scrubbing {
+    /// A scrub more begins, and runs.
+    pub fn begin(&mut self) -> u64
+        requires { self.old.begun + 1 < 2 ^ 64 }
+        ensures number { result ≡ self.old.begun + 1 }
+        ensures kept { self.new ≡ record self.old { begun = self.old.begun + 1; running = Some (self.old.begun + 1); start = Min } }
+    {
+        let serial = self.begun + 1;
+        self.begun = serial;
+        self.running = Some(serial);
+        self.start = Bound::Min;
+        serial
+    }
+
+    /// A chunk more is open.
+    pub fn open(&mut self, chunk: Chunk)
+        ensures { self.new ≡ record self.old { opened = chunk.number; open = Some chunk } }
+    {
+        self.opened = chunk.number;
+        self.open = Some(chunk);
+    }
+
+    /// Whether the chunk of a number is open.
+    pub fn is_open(&self, chunk: u64) -> bool
+        ensures { result ≡ has_number self.now.open chunk }
+    {
+        match &self.open {
+            Some(open) => open.number == chunk,
+            None => false,
+        }
+    }
+
+    /// The answer to a map of a chunk.
+    pub fn take_answer(&self, chunk: u64) -> TakeAnswer
+        ensures { result ≡ taken_by self.now.open chunk }
+    {
+        if self.is_open(chunk) {
+            return TakeAnswer::Taken;
+        }
+        match &self.open {
+            Some(open) => TakeAnswer::Stale {
+                chunk_now: Some(open.number),
+            },
+            None => TakeAnswer::Stale { chunk_now: None },
+        }
+    }
+
+    /// The chunk that is open is so no more. Answers whether its scrub is complete.
+    pub fn close(&mut self) -> bool
+        ensures answer { result ≡ is_last self.old.open }
+        ensures kept { self.new ≡ closed self.old }
+    {
+        let Some(chunk) = self.open.take() else {
+            return false;
+        };
+        let completes = is_greatest(&chunk.range.to);
+        self.running = if completes { None } else { self.running };
+        self.start = chunk.range.to;
+        completes
+    }
+}
+
+fn is_greatest(bound: &Bound) -> bool
+    ensures { result ≡ is_greatest bound.now }
+{
+    match bound {
+        Bound::Max => true,
+        _ => false,
+    }
+}
