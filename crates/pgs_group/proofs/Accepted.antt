@@ -6,10 +6,10 @@ use Rattle.pgs_name.specs.Families.{Family}
 use Rattle.pgs_name.specs.declared.object_id.TheConstants.{HEAD}
 use Rattle.pgs_copy.specs.Copies.{after_effects}
 use Rattle.pgs_copy.specs.declared.effect.Effect.{Effect}
-use Rattle.pgs_store.specs.Stores.{Stored, AreSame, affected, noted}
+use Rattle.pgs_store.specs.Stores.{Stored, AreSame, affected}
 use Rattle.pgs_request.specs.declared.version.Version.{Version}
 use Rattle.pgs_request.specs.declared.answers.WriteAnswer.TheVariants.{Accepted}
-use Rattle.pgs_op.specs.Clean.{clean as clean_of, held_by, held_with, touched_by}
+use Rattle.pgs_op.specs.Clean.{clean as clean_of, held_by, held_with}
 use Rattle.pgs_op.specs.Effects.{payload_size, effects_of, held_after}
 use Rattle.pgs_op.specs.declared.write.Write.{Write}
 use Rattle.pgs_medium.specs.declared.item.Item.{Item}
@@ -45,10 +45,9 @@ pub tied_accepted : (g : Inside) (past : List Event) (write : Write) (version : 
     → new.log.bytes ≡ g.log.bytes + payload_size write.op
     → AreSame (clean_of new.clean) (affected write.family effects (clean_of g.clean))
     → held_by new.clean ≡ held_with g.clean write
-    → touched_by new.clean ≡ noted write.family (touched_by g.clean)
-    → new.pulled ≡ g.pulled → new.told ≡ g.told → new.collected ≡ g.collected
+    → new.pulled ≡ g.pulled → new.told ≡ g.told → new.collected ≡ g.collected → new.scrubs ≡ g.scrubs
     → AreTied new (Submit write (Accepted version) ∷ past)
-tied_accepted g past write version effects new tied e li lids lb cl hl tl p t c =
+tied_accepted g past write version effects new tied e li lids lb cl hl p t c s =
     let made = item_is version write (clean_of g.clean) (log past) effects e tied.cleans in
     let head = tied.cleans write.family HEAD in
     record {
@@ -58,7 +57,8 @@ tied_accepted g past write version effects new tied e li lids lb cl hl tl p t c 
       cleans = λ f q. cl f q ∙ affected_same (clean_of g.clean) (clean (log past)) write.family effects tied.cleans f q
           ∙ (λ i. affected write.family (made i).effects (clean (log past)) f q);
       holds = hl ∙ (λ i. held_after (tied.holds i) (head i) write.op) ∙ sym (held_more (log past) version write);
-      touches = tl ∙ ap (noted write.family) tied.touches;
+      scrubs = s ∙ tied.scrubs;
+      ordered = tied.ordered;
       pulls = λ osd. subst (λ x. count_of x osd ≡ pulled past osd) (sym p) (tied.pulls osd);
       tells = λ osd. subst (λ x. count_of x osd ≡ told past osd) (sym t) (tied.tells osd);
       collects = λ id. subst (λ x. contains same_id x id ≡ collected past id) (sym c) (tied.collects id);

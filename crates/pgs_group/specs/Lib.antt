@@ -1,4 +1,5 @@
 -- How a group is seen.
 pub mod Counts
+pub mod Scrubbing
 pub mod Tied
 pub mod Steps

@@ -1,13 +1,19 @@
 -- Steps of every kind: the answer due, and the events after it.
-use Rattle.std.specs.Prelude.{ℕ, List, reverse}
+use Rattle.std.specs.Prelude.{ℕ, ◌≡◌, List, reverse, Option, Some, None, option_map}
 use Rattle.pgs_op_log.specs.Logs.{newer}
 use Rattle.pgs_history.specs.Log.{log}
 use Rattle.pgs_history.specs.Members.{pulled}
-use Rattle.pgs_history.specs.Answers.{submit_answer, collect_answer, last_number, tell_answer}
-use Rattle.pgs_history.specs.After.{after_submit, after_collect, after_pull, after_tell}
+use Rattle.pgs_chunk.specs.Positions.{Ascends}
+use Rattle.pgs_map.specs.Entries.{AreInRange}
+use Rattle.pgs_history.specs.Scrubs.{running, open_chunk, start, limit_now}
+use Rattle.pgs_history.specs.Answers.{submit_answer, collect_answer, last_number, tell_answer, begin_answer, open_answer, take_answer, close_answer, primary}
+use Rattle.pgs_history.specs.After.{after_submit, after_collect, after_pull, after_tell, after_begin, after_open, after_take, after_close}
 use Rattle.pgs_history.specs.History.{History}
 use Rattle.pgs_history.specs.declared.event.Event.{Event}
+use Rattle.pgs_history.specs.declared.made.Made.{Made}
 use Rattle.pgs_group.specs.declared.pulled.Pulled.{Pulled}
+use Rattle.pgs_group.specs.declared.next_chunk.NextChunk.{NextChunk}
+use Rattle.pgs_group.specs.declared.next_chunk.NextChunk.TheVariants as nexts
 use Rattle.pgs_group.specs.declared.step.Step.{Step}
 use Rattle.pgs_group.specs.declared.step.Step.TheVariants as steps
 use Rattle.pgs_group.specs.declared.step.Answer.{Answer}
@@ -22,9 +28,28 @@ answer_of h (steps.Submit write) = answers.Submit (submit_answer h.made h.past w
 answer_of h (steps.Collect id) = answers.Collect (collect_answer h.made h.past id)
 answer_of h (steps.Pull osd) = answers.Pull (pull_answer h.past osd)
 answer_of h (steps.Tell osd applied) = answers.Tell (tell_answer h.past osd applied)
+answer_of h (steps.Begin kind) = answers.Begin (begin_answer h.past)
+answer_of h (steps.Open serial listed) = answers.Open (open_answer h.made h.past serial listed)
+answer_of h (steps.Take place map) = answers.Take (take_answer h.past map)
+answer_of h (steps.Close chunk) = answers.Close (close_answer h.made h.past chunk)
 
 abbrev pub after : History → Step → History
 after h (steps.Submit write) = record h { past = after_submit h.made h.past write }
 after h (steps.Collect id) = record h { past = after_collect h.made h.past id }
 after h (steps.Pull osd) = record h { past = after_pull h.past osd }
 after h (steps.Tell osd applied) = record h { past = after_tell h.past osd applied }
+after h (steps.Begin kind) = record h { past = after_begin h.past kind }
+after h (steps.Open serial listed) = record h { past = after_open h.made h.past serial listed }
+after h (steps.Take place map) = record h { past = after_take h.past place map }
+after h (steps.Close chunk) = record h { past = after_close h.made h.past chunk }
+
+-- a step is one that a group may be asked for: a chunk is opened of the scrub that runs, and lists and maps are in order
+abbrev pub IsProper : History → Step → Type 0
+IsProper h (steps.Open serial listed) = (running h.past ≡ Some serial) × Ascends listed
+IsProper h (steps.Take place map) = AreInRange map.range map.entries
+IsProper h step = Unit {0}
+
+-- what a caller is told that is to open the next chunk
+abbrev pub IsNextChunk : Made → List Event → NextChunk → Type 0
+IsNextChunk made past (nexts.Already chunk) = option_map (λ c. c.number) (open_chunk past) ≡ Some chunk
+IsNextChunk made past (nexts.Next osd from limit) = (open_chunk past ≡ None) × (primary made ≡ Some osd) × (from ≡ start past) × (limit ≡ limit_now made past)

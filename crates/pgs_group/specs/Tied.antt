@@ -3,13 +3,15 @@ use Rattle.std.specs.Prelude.{ℕ, ◌≡◌, List, reverse}
 use Rattle.std.specs.HashSet.{contains}
 use Rattle.pgs_request.specs.declared.req_id.ReqId.{ReqId}
 use Rattle.pgs_store.specs.Stores.{AreSame}
-use Rattle.pgs_op.specs.Clean.{clean as clean_of, held_by, touched_by}
+use Rattle.pgs_op.specs.Clean.{clean as clean_of, held_by}
 use Rattle.pgs_op_log.specs.Logs.{same_id}
-use Rattle.pgs_history.specs.Log.{clean, families, held, log, ids, log_bytes}
+use Rattle.pgs_history.specs.Log.{clean, held, log, ids, log_bytes}
 use Rattle.pgs_history.specs.Members.{pulled, told, collected}
 use Rattle.pgs_history.specs.History.{History}
 use Rattle.pgs_history.specs.declared.event.Event.{Event}
+use Rattle.pgs_history.specs.Chunks.{AreOrdered}
 use Rattle.pgs_group.specs.Counts.{count_of}
+use Rattle.pgs_group.specs.Scrubbing.{scrubbing}
 use Rattle.pgs_group.specs.declared.group.Group.TheInside.{Inside}
 
 pub record AreTied (g : Inside) (past : List Event) : Type 0 where
@@ -18,9 +20,10 @@ pub record AreTied (g : Inside) (past : List Event) : Type 0 where
   pub log_counts : g.log.bytes ≡ log_bytes past
   pub cleans : AreSame (clean_of g.clean) (clean (log past))
   pub holds : held_by g.clean ≡ held (log past)
-  pub touches : touched_by g.clean ≡ families (log past)
   pub pulls : (osd : ℕ) → count_of g.pulled osd ≡ pulled past osd
   pub tells : (osd : ℕ) → count_of g.told osd ≡ told past osd
+  pub scrubs : g.scrubs ≡ scrubbing past
+  pub ordered : AreOrdered past
   pub collects : (id : ReqId) → contains same_id g.collected id ≡ collected past id
 
 -- how it is seen

@@ -1,6 +1,6 @@
 ghost use Rattle.std.specs.Prelude.{◌≡◌, ◌≤◌, ◌+◌, ◌∷◌, None, length, OnOk, OnErr, IfOk};
-ghost use Rattle.pgs_store.specs.Stores.{AreSame, affected, noted};
-ghost use Rattle.pgs_op.specs.Clean.{clean as clean_of, held_by, held_with, touched_by};
+ghost use Rattle.pgs_store.specs.Stores.{AreSame, affected};
+ghost use Rattle.pgs_op.specs.Clean.{clean as clean_of, held_by, held_with};
 ghost use Rattle.pgs_op.specs.Effects.{payload_size};
 ghost use Rattle.pgs_op.specs.declared.limits.TheConstants.{LOG_MAX, STORE_MAX};
 ghost use Rattle.pgs_op_log.specs.Logs.{AreAlike, version_in};
@@ -48,11 +48,9 @@ pub fn accept(
     ensures bytes { OnOk result (log.new.bytes ≡ log.old.bytes + payload_size write.now.op) }
     ensures cleaned { OnOk result (AreSame (clean_of clean.new) (affected write.now.family effects (clean_of clean.old))) }
     ensures held { OnOk result (held_by clean.new ≡ held_with clean.old write.now) }
-    ensures touched { OnOk result (touched_by clean.new ≡ noted write.now.family (touched_by clean.old)) }
     ensures log { OnErr result (AreAlike log.old log.new) }
     ensures same { OnErr result (AreSame (clean_of clean.new) (clean_of clean.old)) }
     ensures same_held { OnErr result (held_by clean.new ≡ held_by clean.old) }
-    ensures same_touched { OnErr result (touched_by clean.new ≡ touched_by clean.old) }
 {
     log.reserve()?;
     let item = item_of(version, write, effects)?;

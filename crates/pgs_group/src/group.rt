@@ -1,27 +1,29 @@
 ghost use Rattle.std.specs.Prelude.{◌≡◌, [], reverse, IfOk, OnOk, OnErr};
 ghost use Rattle.pgs_history.specs.Answers.{submit_answer, behind, collect_answer, tell_answer};
-ghost use Rattle.pgs_history.specs.Legal.{IsLegal};
-ghost use Rattle.pgs_history.specs.After.{after_submit, after_collect, after_pull, after_tell};
-ghost use Rattle.pgs_history.specs.Log.{clean, families, log};
-ghost use Rattle.pgs_name.specs.declared.object_id.TheConstants.{HEAD};
 ghost use Rattle.std.specs.Option.{option_copied};
-ghost use Rattle.pgs_group.specs.Steps.{pull_answer, answer_of, after};
+ghost use Rattle.pgs_history.specs.Legal.{IsLegal};
+ghost use Rattle.pgs_history.specs.Scrubs.{running, opened, open_chunk};
+ghost use Rattle.pgs_history.specs.Chunks.{AreFated, AreTiled};
+ghost use Rattle.pgs_history.specs.After.{after_submit, after_collect, after_pull, after_tell};
+ghost use Rattle.pgs_group.specs.Steps.{pull_answer, answer_of, after, IsProper};
 
 use crate::accepting::accept;
 use crate::behind::first_behind;
 use crate::counts::Counts;
 use crate::pulled::Pulled;
+use crate::scrubbing::Scrubbing;
 use crate::step::{Answer, Step};
-use pgs_copy::ObjCopy;
-use pgs_history::{Event, Made};
-use pgs_name::Family;
+use pgs_history::{Chunk, Event, Made};
 use pgs_op::{CleanStore, Write, WriteError, make_effects};
 use pgs_op_log::GroupLog;
+use pgs_range::Bound;
 use pgs_request::{CollectAnswer, Declined, ReqId, Version, WriteAnswer};
 use sqlite_items::Items;
 use std::alloc::{AllocError, Global};
 use std::collections::HashSet;
 use std::marker::Model;
+
+mod scrubs;
 
 /// A group of the pool, seen as what it was made with and its kept events, the newest first.
 #[derive(Drop)]
@@ -34,6 +36,7 @@ pub struct Group {
     pulled: Counts,
     told: Counts,
     collected: HashSet<ReqId>,
+    scrubs: Scrubbing,
 }
 
 impl Model for Group {
@@ -63,8 +66,16 @@ impl Group {
             pulled: Counts::new(alloc),
             told: Counts::new(alloc),
             collected: HashSet::new(alloc),
+            scrubs: Scrubbing {
+                begun: 0,
+                opened: 0,
+                running: None,
+                open: None,
+                start: Bound::Min,
+            },
         }
     }
+
     /// Answers a client's write, and appends it to the log where it is accepted.
     #[tactic(auto, using(pgs_op::proofs::Refusals::log_within, pgs_history::proofs::Legal::legal_submit), unfolding(pgs_history::specs::Answers::declined))]
     pub fn submit(&mut self, write: Write) -> Result<WriteAnswer, AllocError>
@@ -193,6 +204,7 @@ impl Group {
 
     /// Makes a step of any kind.
     pub fn step(&mut self, step: Step) -> Result<Answer, AllocError>
+        requires proper { IsProper self.old step }
         ensures answer { IfOk result (λ a. a ≡ answer_of self.old step) }
         ensures kept { OnOk result (self.new ≡ after self.old step) }
         ensures err { OnErr result (self.new ≡ self.old) }
@@ -215,6 +227,22 @@ impl Group {
                 let applied = self.tell(osd, applied)?;
                 Ok(Answer::Tell { applied })
             }
+            Step::Begin { kind } => {
+                let answer = self.begin(kind)?;
+                Ok(Answer::Begin { answer })
+            }
+            Step::Open { serial, listed } => {
+                let answer = self.open(serial, listed)?;
+                Ok(Answer::Open { answer })
+            }
+            Step::Take { place, map } => {
+                let answer = self.take(place, map)?;
+                Ok(Answer::Take { answer })
+            }
+            Step::Close { chunk } => {
+                let answer = self.close(chunk)?;
+                Ok(Answer::Close { answer })
+            }
         }
     }
 
@@ -225,23 +253,35 @@ impl Group {
         &self.made
     }
 
-    /// The families that were written, in the order of their first writes.
-    pub fn families(&self) -> &[Family]
-        ensures { result.now ≡ families (log self.now.past) }
+    /// The scrub that runs.
+    pub fn running(&self) -> Option<u64>
+        ensures { result ≡ running self.now.past }
     {
-        self.clean.families()
+        self.scrubs.running
     }
 
-    /// The head of a family as the accepted writes alone make it.
-    pub fn clean_head(&self, family: &Family) -> Option<&ObjCopy>
-        ensures { option_copied result ≡ clean (log self.now.past) family.now HEAD }
+    /// The number of the chunk that was opened last, or 0.
+    pub fn last_chunk(&self) -> u64
+        ensures { result ≡ opened self.now.past }
     {
-        self.clean.head(family)
+        self.scrubs.opened
     }
 
-    /// Its events, the oldest first.
+    /// The chunk that is open. Of a legal history there is one at most, and each other chunk was closed once.
+    #[tactic(auto, using(pgs_history::proofs::Fates::fated))]
+    pub fn open_chunk(&self) -> Option<&Chunk>
+        ensures value { option_copied result ≡ open_chunk self.now.past }
+        ensures fates { IsLegal self.now.made self.now.past → AreFated self.now.past }
+    {
+        self.scrubs.open.as_ref()
+    }
+
+    /// Its events, the oldest first. The closed chunks of each scrub lie in a row from the least bound on, and those of one
+    /// that is complete hold each family once.
+    #[tactic(auto, using(pgs_history::proofs::Rows::tiled))]
     pub fn into_events(self) -> Items<Event>
-        ensures { reverse result ≡ self.past }
+        ensures value { reverse result ≡ self.past }
+        ensures tiled { IsLegal self.made self.past → AreTiled self.past }
     {
         Items::from_vec(self.events)
     }

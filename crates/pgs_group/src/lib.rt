@@ -4,11 +4,16 @@
 mod accepting;
 mod behind;
 mod counts;
+mod finding;
 mod group;
+mod next_chunk;
 mod pulled;
+mod scrubbing;
 mod step;
+mod taken;
 
 pub use counts::Counts;
 pub use group::Group;
+pub use next_chunk::NextChunk;
 pub use pulled::Pulled;
 pub use step::{Answer, Step};

@@ -1,6 +1,11 @@
 use crate::pulled::Pulled;
+use pgs_chunk::Kind;
+use pgs_history::{BeginAnswer, CloseAnswer, OpenAnswer, TakeAnswer};
+use pgs_map::ScrubMap;
+use pgs_name::ObjectId;
 use pgs_op::Write;
 use pgs_request::{CollectAnswer, ReqId, WriteAnswer};
+use sqlite_items::Items;
 
 /// What is asked of a group.
 #[derive(Drop)]
@@ -13,6 +18,14 @@ pub enum Step {
     Pull { osd: u32 },
     /// A member tells how far it has applied the log.
     Tell { osd: u32, applied: u64 },
+    /// A scrub is to begin.
+    Begin { kind: Kind },
+    /// A chunk of the running scrub is to be opened; the positions are the primary's.
+    Open { serial: u64, listed: Items<ObjectId> },
+    /// A member gives its map of a chunk, made at this place of its shard's events.
+    Take { place: u64, map: ScrubMap },
+    /// A chunk is to be closed.
+    Close { chunk: u64 },
 }
 
 /// What a group answers to a step of the same kind.
@@ -22,4 +35,8 @@ pub enum Answer {
     Collect { answer: CollectAnswer },
     Pull { pulled: Pulled },
     Tell { applied: u64 },
+    Begin { answer: BeginAnswer },
+    Open { answer: OpenAnswer },
+    Take { answer: TakeAnswer },
+    Close { answer: CloseAnswer },
 }

@@ -4,6 +4,7 @@ pub mod Members
 pub mod Scrubs
 pub mod Findings
 pub mod Answers
+pub mod Chunks
 pub mod After
 pub mod Legal
 pub mod Facts

@@ -1,0 +1,42 @@
+-- What holds of the scrubs and chunks of a legal history.
+use Rattle.std.specs.Prelude.{ℕ, ◌≡◌, ◌≤◌, ◌<◌, ◌+◌, true, List, [], ◌∷◌, Some, if◌then◌else◌}
+use Rattle.pgs_name.specs.Families.{Family}
+use Rattle.pgs_range.specs.Rows.{AreInRow, times_held}
+use Rattle.pgs_range.specs.declared.bound.Bound.{Bound}
+use Rattle.pgs_range.specs.declared.bound.Bound.TheVariants.{Min, Max}
+use Rattle.pgs_map.specs.Entries.{AreInRange}
+use Rattle.pgs_history.specs.Scrubs.{begun, running, opened, open_chunk, is_open, start, closes, closed_ranges, completed}
+use Rattle.pgs_history.specs.declared.chunk.Chunk.{Chunk}
+use Rattle.pgs_history.specs.declared.event.Event.{Event}
+use Rattle.pgs_history.specs.declared.event.Event.TheVariants.{Take}
+
+-- ---- maps
+
+abbrev pub IsOrdered : Event → Type 0
+IsOrdered (Take place map answer) = AreInRange map.range map.entries
+IsOrdered event = Unit {0}
+
+-- the entries of each map are in order and in its range
+abbrev pub AreOrdered : List Event → Type 0
+AreOrdered [] = Unit {0}
+AreOrdered (event ∷ past) = IsOrdered event × AreOrdered past
+
+-- ---- fates
+
+-- Each chunk that was opened was closed once, but for the one that is open: so a chunk has at most one fate, and at most one chunk has none.
+pub record AreFated (past : List Event) : Type 0 where
+  pub each : (chunk : ℕ) → 1 ≤ chunk → chunk ≤ opened past → closes past chunk ≡ (if is_open past chunk then 0 else 1)
+  pub others : (chunk : ℕ) → opened past < chunk → closes past chunk ≡ 0
+  pub last : (chunk : Chunk) → open_chunk past ≡ Some chunk → chunk.number ≡ opened past
+
+-- ---- tiles
+
+-- The closed chunks of a scrub begin at the least bound, and each next one where the one before ended; those of one that is complete end above all families.
+pub record IsTiled (past : List Event) (serial : ℕ) : Type 0 where
+  pub end : Bound
+  pub row : AreInRow Min (closed_ranges past serial) end
+  pub whole : completed past serial ≡ true → end ≡ Max
+  pub once : completed past serial ≡ true → (f : Family) → times_held (closed_ranges past serial) f ≡ 1
+
+abbrev pub AreTiled : List Event → Type 0
+AreTiled past = (serial : ℕ) → IsTiled past serial
