@@ -19,7 +19,7 @@ use Rattle.pgs_history.specs.Answers.{refused, declined, answered, next_version,
 use Rattle.pgs_history.specs.Legal.{IsLegal}
 use Rattle.pgs_history.specs.Facts.{AreDistinct, times}
 use Rattle.pgs_history.specs.declared.event.Event.{Event}
-use Rattle.pgs_history.specs.declared.event.Event.TheVariants.{Submit, Collect, Pull, Tell}
+use Rattle.pgs_history.specs.declared.event.Event.TheVariants.{Submit, Collect, Pull, Tell, Begin, Open, Take, Close}
 use Rattle.pgs_history.specs.declared.made.Made.{Made}
 
 -- ---- what an accepted write tells
@@ -55,6 +55,10 @@ numbered made (Submit write (Declined why) ∷ past) legal = numbered made past 
 numbered made (Collect id version ∷ past) legal = numbered made past legal.1
 numbered made (Pull osd from to ∷ past) legal = numbered made past legal.1
 numbered made (Tell osd applied ∷ past) legal = numbered made past legal.1
+numbered made (Begin kind answer ∷ past) legal = numbered made past legal.1
+numbered made (Open serial listed answer ∷ past) legal = numbered made past legal.1
+numbered made (Take place map answer ∷ past) legal = numbered made past legal.1
+numbered made (Close chunk answer ∷ past) legal = numbered made past legal.1
 
 -- ---- ids
 
@@ -72,6 +76,10 @@ distinct made (Submit write (Declined why) ∷ past) legal = distinct made past 
 distinct made (Collect id version ∷ past) legal = distinct made past legal.1
 distinct made (Pull osd from to ∷ past) legal = distinct made past legal.1
 distinct made (Tell osd applied ∷ past) legal = distinct made past legal.1
+distinct made (Begin kind answer ∷ past) legal = distinct made past legal.1
+distinct made (Open serial listed answer ∷ past) legal = distinct made past legal.1
+distinct made (Take place map answer ∷ past) legal = distinct made past legal.1
+distinct made (Close chunk answer ∷ past) legal = distinct made past legal.1
 
 pub as_many : (past : List Event) → length (ids past) ≡ length (log past)
 as_many [] = refl
@@ -80,6 +88,10 @@ as_many (Submit write (Declined why) ∷ past) = as_many past
 as_many (Collect id version ∷ past) = as_many past
 as_many (Pull osd from to ∷ past) = as_many past
 as_many (Tell osd applied ∷ past) = as_many past
+as_many (Begin kind answer ∷ past) = as_many past
+as_many (Open serial listed answer ∷ past) = as_many past
+as_many (Take place map answer ∷ past) = as_many past
+as_many (Close chunk answer ∷ past) = as_many past
 
 times-cons : (entry : ReqId × Version) (entries : List (ReqId × Version)) (id : ReqId)
     → times (entry ∷ entries) id ≡ cond (same_id entry.0 id) 1 0 + times entries id
@@ -121,6 +133,10 @@ version_within made (Submit write (Declined why) ∷ past) id version legal e = 
 version_within made (Collect other w ∷ past) id version legal e = version_within made past id version legal.1 e
 version_within made (Pull osd from to ∷ past) id version legal e = version_within made past id version legal.1 e
 version_within made (Tell osd applied ∷ past) id version legal e = version_within made past id version legal.1 e
+version_within made (Begin kind answer ∷ past) id version legal e = version_within made past id version legal.1 e
+version_within made (Open serial listed answer ∷ past) id version legal e = version_within made past id version legal.1 e
+version_within made (Take place map answer ∷ past) id version legal e = version_within made past id version legal.1 e
+version_within made (Close chunk answer ∷ past) id version legal e = version_within made past id version legal.1 e
 
 -- ---- pulls
 
@@ -141,3 +157,7 @@ pulled_within made (Pull other from to ∷ past) osd legal =
       | false ↦ rest
     ])
 pulled_within made (Tell other applied ∷ past) osd legal = pulled_within made past osd legal.1
+pulled_within made (Begin kind answer ∷ past) osd legal = pulled_within made past osd legal.1
+pulled_within made (Open serial listed answer ∷ past) osd legal = pulled_within made past osd legal.1
+pulled_within made (Take place map answer ∷ past) osd legal = pulled_within made past osd legal.1
+pulled_within made (Close chunk answer ∷ past) osd legal = pulled_within made past osd legal.1

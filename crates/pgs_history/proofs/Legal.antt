@@ -6,9 +6,11 @@ use Rattle.pgs_request.specs.declared.answers.CollectAnswer.{CollectAnswer}
 use Rattle.pgs_request.specs.declared.answers.CollectAnswer.TheVariants.{Unknown, NotYet, Acked}
 use Rattle.pgs_op.specs.declared.write.Write.{Write}
 use Rattle.pgs_history.specs.Members.{collected, pulled, told}
-use Rattle.pgs_history.specs.Answers.{collect_answer, last_number}
-use Rattle.pgs_history.specs.After.{after_submit, after_collected, after_collect, after_pull, after_tell}
+use Rattle.pgs_history.specs.Answers.{collect_answer, last_number, close_answer}
+use Rattle.pgs_history.specs.After.{after_submit, after_collected, after_collect, after_pull, after_tell, after_closed, after_close}
 use Rattle.pgs_history.specs.Legal.{IsLegal}
+use Rattle.pgs_history.specs.declared.close_answer.CloseAnswer.{CloseAnswer}
+use Rattle.pgs_history.specs.declared.close_answer.CloseAnswer.TheVariants as closes
 use Rattle.pgs_history.specs.declared.event.Event.{Event}
 use Rattle.pgs_history.specs.declared.event.Event.TheVariants.{Collect, Pull, Tell}
 use Rattle.pgs_history.specs.declared.made.Made.{Made}
@@ -46,3 +48,13 @@ legal_tell made past osd applied legal =
       | true ↦ λ e. (grind (arith, nat_tests, e), legal)
       | false ↦ λ e. legal
     ]) refl
+
+closed_legal : (made : Made) (past : List Event) (chunk : ℕ) (answer : CloseAnswer) → answer ≡ close_answer made past chunk → IsLegal made past
+    → IsLegal made (after_closed past chunk answer)
+closed_legal made past chunk closes.NoChunk e legal = ((e, tt), legal)
+closed_legal made past chunk closes.ClosedBefore e legal = ((e, tt), legal)
+closed_legal made past chunk (closes.NotYet osd) e legal = legal
+closed_legal made past chunk (closes.Closed findings completes) e legal = ((e, tt), legal)
+
+pub legal_close : (made : Made) (past : List Event) (chunk : ℕ) → IsLegal made past → IsLegal made (after_close made past chunk)
+legal_close made past chunk legal = closed_legal made past chunk (close_answer made past chunk) refl legal

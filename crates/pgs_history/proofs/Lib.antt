@@ -1,4 +1,7 @@
--- Laws of the histories of groups.
+-- Laws of a group's events.
 pub mod Legal
 pub mod Ids
 pub mod Held
+pub mod Steps
+pub mod Fates
+pub mod Rows

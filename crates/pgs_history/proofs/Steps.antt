@@ -1,0 +1,72 @@
+-- What the events of a legal history tell of the chunks before them.
+use Rattle.std.proofs.Common.{◌≡◌, ℕ, ◌+◌, ◌≤◌, ◌==◌, ◌||◌, nat_lt, Bool, true, false, not, List, [], ◌∷◌, Option, Some, None, refl, sym, ap, ◌∙◌, arith}
+use Rattle.std.specs.Prelude.{option_map}
+use Rattle.std.specs.Bool.{then_some}
+use Rattle.std.proofs.lemmas.Bool.Decides.{nat_tests}
+use Rattle.pgs_bytes.proofs.Facts.{true_false}
+use Rattle.pgs_name.specs.declared.object_id.ObjectId.{ObjectId}
+use Rattle.pgs_op.specs.Effects.{first}
+use Rattle.pgs_history.specs.Scrubs.{running, begun, opened, open_chunk, has_number, is_open}
+use Rattle.pgs_history.specs.Answers.{unclosed, or_closed, found, is_last, missing, begin_answered, begin_answer, open_answer, open_answered, next_chunk, close_answer}
+use Rattle.pgs_history.specs.declared.made.Made.{Made}
+use Rattle.pgs_history.specs.declared.chunk.Chunk.{Chunk}
+use Rattle.pgs_history.specs.declared.event.Event.{Event}
+use Rattle.pgs_history.specs.declared.begin_answer.BeginAnswer.TheVariants.{Busy, Began}
+use Rattle.pgs_history.specs.declared.open_answer.OpenAnswer.TheVariants.{Already, Opened}
+use Rattle.pgs_history.specs.declared.close_answer.CloseAnswer.TheVariants as ends
+
+-- ---- a scrub that began
+
+began_from : (now : Option ℕ) (count serial : ℕ) → Began serial ≡ begin_answered now count → (now ≡ None) × (serial ≡ count + 1)
+began_from None count serial e = (refl, cc)
+began_from (Some s) count serial e = absurd cc
+
+pub began_is : (past : List Event) (serial : ℕ) → Began serial ≡ begin_answer past → (running past ≡ None) × (serial ≡ begun past + 1)
+began_is past serial e = began_from (running past) (begun past) serial e
+
+-- ---- a chunk that was opened
+
+opened_from : (now : Option Chunk) (next chunk : Chunk) → Opened chunk ≡ open_answered now next → (now ≡ None) × (chunk ≡ next)
+opened_from None next chunk e = (refl, cc)
+opened_from (Some c) next chunk e = absurd cc
+
+pub opened_is : (made : Made) (past : List Event) (serial : ℕ) (listed : List ObjectId) (chunk : Chunk) → Opened chunk ≡ open_answer made past serial listed
+    → (open_chunk past ≡ None) × (chunk ≡ next_chunk made past serial listed)
+opened_is made past serial listed chunk e = opened_from (open_chunk past) (next_chunk made past serial listed) chunk e
+
+-- ---- a chunk that was closed
+
+pub record IsClosed (past : List Event) (number : ℕ) (completes : Bool) : Type 0 where
+  pub some : (number == 0) ≡ false
+  pub was_opened : number ≤ opened past
+  pub was_open : is_open past number ≡ true
+  pub last : completes ≡ is_last (open_chunk past)
+
+either : (a b : Bool) → (a || b) ≡ false → (a ≡ false) × (b ≡ false)
+either true b e = absurd (true_false e)
+either false b e = (refl, e)
+
+not_false : (a : Bool) → not a ≡ false → a ≡ true
+not_false true e = refl
+not_false false e = absurd (true_false e)
+
+closed_from : (a b : Bool) (m : Option ℕ) (n findings : ℕ) (last completes : Bool)
+    → ends.Closed findings completes ≡ or_closed (first (then_some a ends.NoChunk ∷ then_some b ends.ClosedBefore ∷ option_map (λ osd. ends.NotYet osd) m ∷ [])) n last
+    → (a ≡ false) × (b ≡ false) × (completes ≡ last)
+closed_from true b m n findings last completes e = absurd cc
+closed_from false true m n findings last completes e = absurd cc
+closed_from false false (Some osd) n findings last completes e = absurd cc
+closed_from false false None n findings last completes e = (refl, refl, cc)
+
+pub closed_is : (made : Made) (past : List Event) (number findings : ℕ) (completes : Bool) → ends.Closed findings completes ≡ close_answer made past number → IsClosed past number completes
+unfolding unclosed
+closed_is made past number findings completes e =
+    let h = closed_from ((number == 0) || nat_lt (opened past) number) (not (is_open past number)) (missing made past number) (found made past number) findings
+        (is_last (open_chunk past)) completes e in
+    let within = either (number == 0) (nat_lt (opened past) number) h.0 in
+    record {
+      some = within.0;
+      was_opened = grind (arith, nat_tests, within.1);
+      was_open = not_false (is_open past number) h.1;
+      last = h.2;
+    }
