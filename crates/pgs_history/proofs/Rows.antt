@@ -142,7 +142,7 @@ or_false true b e = absurd (true_false e)
 or_false false b e = refl
 
 module _ (past : List Event) (number findings : ℕ) (completes : Bool) (h : IsWalk past) where
-  new : List Event
+  abbrev new : List Event
   new = Close number (ends.Closed findings completes) ∷ past
 
   module _ (chunk : Chunk) (is : open_chunk past ≡ Some chunk) (last : completes ≡ is_greatest chunk.range.to) where
@@ -211,8 +211,8 @@ module _ (past : List Event) (number findings : ℕ) (completes : Bool) (h : IsW
 
   -- the chunk that is closed is there
   closed_some : (c : Option Chunk) → c ≡ open_chunk past → has_number c number ≡ true → completes ≡ is_last c → IsWalk new
-  closed_some None e open last = absurd (true_false (sym open))
-  closed_some (Some chunk) e open last = closes chunk (sym e) last
+  closed_some None e there last = absurd (true_false (sym there))
+  closed_some (Some chunk) e there last = closes chunk (sym e) last
 
 pub walked : (made : Made) (past : List Event) → IsLegal made past → IsWalk past
 walked made [] legal = record {
