@@ -1,2 +1,4 @@
 -- Laws of stores.
 pub mod Puts
+pub mod Filled
+pub mod Nexts

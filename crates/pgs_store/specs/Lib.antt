@@ -1,3 +1,4 @@
--- What a store holds, and what effects and damage leave of it.
+-- What a store holds, what effects and damage leave of it, and which copy comes next.
 pub mod Stores
 pub mod Kept
+pub mod Firsts

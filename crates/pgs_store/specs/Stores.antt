@@ -1,8 +1,9 @@
 -- Stores: which copy of which object is there.
-use Rattle.std.specs.Prelude.{ℕ, ◌≡◌, List, [], ◌∷◌, ◌++◌, length, Option, Some, None, if◌then◌else◌}
+use Rattle.std.specs.Prelude.{ℕ, Bool, ◌≡◌, List, [], ◌∷◌, ◌++◌, length, Option, Some, None, is_some, if◌then◌else◌}
 use Rattle.std.specs.List.{list_any}
 use Rattle.pgs_name.specs.Families.{same_family}
 use Rattle.pgs_name.specs.Families.{Family}
+use Rattle.pgs_name.specs.declared.object_id.ObjectId.{ObjectId}
 use Rattle.pgs_copy.specs.Copies.{no_copies, after_effects, after_damage}
 use Rattle.pgs_copy.specs.declared.obj_copy.ObjCopy.{ObjCopy}
 use Rattle.pgs_copy.specs.declared.effect.Effect.{Effect}
@@ -15,6 +16,10 @@ Stored = Family → ℕ → Option ObjCopy
 -- nothing is stored
 abbrev pub nothing_stored : Stored
 nothing_stored = λ f. no_copies
+
+-- a copy is stored at a position
+abbrev pub is_stored : Stored → ObjectId → Bool
+is_stored stored id = is_some (stored id.family id.snap)
 
 -- two stores hold the same
 abbrev pub AreSame : Stored → Stored → Type 0

@@ -1,32 +1,33 @@
-ghost use Rattle.std.specs.Prelude.{◌≡◌, ℕ, [], OnOk, OnErr, IfOk, if◌then◌else◌};
+ghost use Rattle.std.specs.Prelude.{◌≡◌, ℕ, OnOk, OnErr, IfOk, if◌then◌else◌};
 ghost use Rattle.std.specs.Option.{option_copied};
 ghost use Rattle.std.specs.Ordering.{nat_cmp};
 ghost use Rattle.std.specs.BTreeMap.{get};
 ghost use Rattle.pgs_name.specs.Families.{same_family};
 ghost use Rattle.pgs_name.specs.Families.{Family as FamilyName};
-ghost use Rattle.pgs_store.specs.Stores.{AreSame, nothing_stored, affected, harmed, noted};
-ghost use Rattle.pgs_store.specs.Kept.{stored, touched};
+ghost use Rattle.pgs_range.specs.Listed.{IsNext};
+ghost use Rattle.pgs_store.specs.Stores.{AreSame, nothing_stored, is_stored, affected, harmed};
+ghost use Rattle.pgs_store.specs.Kept.{stored};
 
-use indexmap::IndexMap;
+use crate::firsts;
 use pgs_copy::{Damage, Effect, ObjCopy, apply_damage, apply_effects};
-use pgs_name::Family;
+use pgs_name::{Family, ObjectId};
+use pgs_range::{Bound, Cursor};
 use std::alloc::{AllocError, Global};
 use std::collections::BTreeMap;
 
-/// Copies of objects in memory, by family and snap.
+/// Copies of objects in memory, by family and snap. A family whose copies are all gone may stay, with none.
 #[derive(Drop)]
 pub struct Store {
-    families: IndexMap<Family, BTreeMap<u64, ObjCopy>>,
+    families: BTreeMap<Family, BTreeMap<u64, ObjCopy>>,
 }
 
 impl Store {
     /// A store that holds nothing. It takes no memory.
     pub fn new(alloc: Global) -> Store
-        ensures stored { AreSame (stored result) nothing_stored }
-        ensures touched { touched result ≡ [] }
+        ensures { AreSame (stored result) nothing_stored }
     {
         Store {
-            families: IndexMap::new(alloc),
+            families: BTreeMap::new(alloc),
         }
     }
 
@@ -38,11 +39,19 @@ impl Store {
         copies.get(&snap)
     }
 
-    /// The families that were touched, in the order of their first touch.
-    pub fn families(&self) -> &[Family]
-        ensures { result.now ≡ touched self.now }
+    /// The least position that is stored behind a cursor and below a bound.
+    #[tactic(auto, using(crate::proofs::Nexts::nexts))]
+    pub fn next(&self, cursor: &Cursor, to: &Bound) -> Result<Option<ObjectId>, AllocError>
+        ensures { IfOk result (λ next. IsNext (is_stored (stored self.now)) cursor.now to.now next) }
     {
-        self.families.keys().as_slice()
+        let Some((family, snap)) = firsts::behind(&self.families, cursor) else {
+            return Ok(None);
+        };
+        if !to.is_above(family) {
+            return Ok(None);
+        }
+        let family = family.clone()?;
+        Ok(Some(ObjectId { family, snap }))
     }
 
     // The copies of a family, as a map of its own.
@@ -56,11 +65,10 @@ impl Store {
     }
 
     // Puts a map in the place of the copies of a family.
-    #[tactic(auto, using(crate::proofs::Puts::in_map_cond, crate::proofs::Puts::keys_noted))]
+    #[tactic(auto, using(crate::proofs::Puts::in_map_put))]
     fn put(&mut self, family: &Family, copies: BTreeMap<u64, ObjCopy>) -> Result<(), AllocError>
         ensures ok { OnOk result ((f : FamilyName) (q : ℕ) → stored self.new f q ≡ (if same_family family.now f then get nat_cmp copies q else stored self.old f q)) }
-        ensures touched { OnOk result (touched self.new ≡ noted family.now (touched self.old)) }
-        ensures err { OnErr result (AreSame (stored self.new) (stored self.old) × (touched self.new ≡ touched self.old)) }
+        ensures err { OnErr result (AreSame (stored self.new) (stored self.old)) }
     {
         let family = family.clone()?;
         self.families.insert(family, copies)?;
@@ -75,8 +83,7 @@ impl Store {
         effects: &[(u64, Effect)],
     ) -> Result<(), AllocError>
         ensures ok { OnOk result (AreSame (stored self.new) (affected family.now effects.now (stored self.old))) }
-        ensures touched { OnOk result (touched self.new ≡ noted family.now (touched self.old)) }
-        ensures err { OnErr result (AreSame (stored self.new) (stored self.old) × (touched self.new ≡ touched self.old)) }
+        ensures err { OnErr result (AreSame (stored self.new) (stored self.old)) }
     {
         let mut copies = self.copies(alloc, family)?;
         apply_effects(alloc, &mut copies, effects)?;
@@ -93,8 +100,7 @@ impl Store {
         damage: &Damage,
     ) -> Result<(), AllocError>
         ensures ok { OnOk result (AreSame (stored self.new) (harmed family.now snap damage.now (stored self.old))) }
-        ensures touched { OnOk result (touched self.new ≡ noted family.now (touched self.old)) }
-        ensures err { OnErr result (AreSame (stored self.new) (stored self.old) × (touched self.new ≡ touched self.old)) }
+        ensures err { OnErr result (AreSame (stored self.new) (stored self.old)) }
     {
         let mut copies = self.copies(alloc, family)?;
         apply_damage(alloc, &mut copies, snap, damage)?;
