@@ -1,9 +1,9 @@
 -- Numbers of calls.
-use Rattle.std.specs.Prelude.{ℕ, ◌+◌, ◌==◌, ◌&&◌, min, Bool, true, List}
+use Rattle.std.specs.Prelude.{ℕ, ◌+◌, ◌==◌, ◌&&◌, min, Bool, true, false, List}
 use Rattle.std.specs.List.{list_any}
 use Rattle.pgs_cause.specs.Count.{LAST_COUNT}
 use Rattle.pgs_medium.specs.declared.call_kind.CallKind.{CallKind}
-use Rattle.pgs_medium.specs.declared.call_kind.CallKind.TheVariants.{Write}
+use Rattle.pgs_medium.specs.declared.call_kind.CallKind.TheVariants as kinds
 use Rattle.pgs_medium.specs.declared.failing_call.FailingCall.{FailingCall}
 
 -- How many calls of a kind were made, and how many of them failed. A call that memory stopped wasn't made.
@@ -25,7 +25,10 @@ after_failure calls = record { made = one_more calls.made; failed = one_more cal
 
 -- the kinds are the same
 abbrev pub same_kind : CallKind → CallKind → Bool
-same_kind Write Write = true
+same_kind kinds.Write kinds.Write = true
+same_kind kinds.Write kinds.List = false
+same_kind kinds.List kinds.Write = false
+same_kind kinds.List kinds.List = true
 
 -- a list names the call of this kind and number
 abbrev pub is_named : CallKind → ℕ → List FailingCall → Bool

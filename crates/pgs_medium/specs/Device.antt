@@ -2,29 +2,40 @@
 use Rattle.std.specs.Prelude.{ℕ, ◌≡◌, Bool, true, false, List, Option, IfSome, Result, Ok, Err}
 use Rattle.pgs_cause.specs.Count.{Rose}
 use Rattle.pgs_name.specs.Families.{Family}
+use Rattle.pgs_name.specs.declared.object_id.ObjectId.{ObjectId}
+use Rattle.pgs_range.specs.Listed.{IsNext}
+use Rattle.pgs_range.specs.declared.bound.Bound.{Bound}
+use Rattle.pgs_range.specs.declared.cursor.Cursor.{Cursor}
 use Rattle.pgs_copy.specs.declared.damage.Damage.{Damage}
-use Rattle.pgs_store.specs.Stores.{Stored, nothing_stored, affected, harmed}
+use Rattle.pgs_store.specs.Stores.{Stored, nothing_stored, is_stored, affected, harmed}
 use Rattle.pgs_medium.specs.Calls.{Calls, one_more, after_answer, after_failure, is_named}
-use Rattle.pgs_medium.specs.declared.call_kind.CallKind.TheVariants.{Write}
+use Rattle.pgs_medium.specs.declared.call_kind.CallKind.{CallKind}
+use Rattle.pgs_medium.specs.declared.call_kind.CallKind.TheVariants as kinds
 use Rattle.pgs_medium.specs.declared.failing_call.FailingCall.{FailingCall}
 use Rattle.pgs_medium.specs.declared.item.Item.{Item}
 use Rattle.pgs_medium.specs.declared.medium_error.MediumError.{MediumError}
 use Rattle.pgs_medium.specs.declared.medium_error.MediumError.TheVariants.{Failed, Memory}
 
--- A device: the copies that it holds, the count of its faults, the numbers of its writes, and the calls that are to fail, where they are told.
+-- A device: the copies that it holds, the count of its faults, the numbers of its writes and of its listings, and the calls that are to fail, where they are told.
 pub record Device : Type 0 where
   pub stored : Stored
   pub faults : ℕ
   pub writes : Calls
+  pub lists : Calls
   pub failing : Option (List FailingCall)
 
 -- a device that holds nothing, and of which no call was made
 abbrev pub empty_device : Option (List FailingCall) → Device
-empty_device failing = record { stored = nothing_stored; faults = 0; writes = record { made = 0; failed = 0 }; failing = failing }
+empty_device failing = record { stored = nothing_stored; faults = 0; writes = record { made = 0; failed = 0 }; lists = record { made = 0; failed = 0 }; failing = failing }
 
--- whether the next write is to fail, where that is told
-abbrev pub IsTold : Device → Bool → Type 0
-IsTold device fails = IfSome device.failing (λ calls. is_named Write (one_more device.writes.made) calls ≡ fails)
+-- the numbers of the calls of a kind
+abbrev pub calls_of : CallKind → Device → Calls
+calls_of kinds.Write device = device.writes
+calls_of kinds.List device = device.lists
+
+-- whether the next call of a kind is to fail, where that is told
+abbrev pub IsTold : CallKind → Device → Bool → Type 0
+IsTold kind device fails = IfSome device.failing (λ calls. is_named kind (one_more (calls_of kind device).made) calls ≡ fails)
 
 -- a device after an item was written
 abbrev pub written : Item → Device → Device
@@ -34,19 +45,42 @@ written item device = record device { stored = affected item.family item.effects
 abbrev pub not_written : ℕ → Device → Device
 not_written faults device = record device { faults = faults; writes = after_failure device.writes }
 
+-- a device after a listing that it answered
+abbrev pub listed : Device → Device
+listed device = record device { lists = after_answer device.lists }
+
+-- a device after a listing that failed: its count of faults is another
+abbrev pub not_listed : ℕ → Device → Device
+not_listed faults device = record device { faults = faults; lists = after_failure device.lists }
+
+-- a device after a call of a kind that failed
+abbrev pub not_answered : CallKind → ℕ → Device → Device
+not_answered kinds.Write faults device = not_written faults device
+not_answered kinds.List faults device = not_listed faults device
+
 -- an item was written, where no list names the call
 abbrev pub IsDone : Item → Device → Device → Type 0
-IsDone item old new = (new ≡ written item old) × IsTold old false
+IsDone item old new = (new ≡ written item old) × IsTold kinds.Write old false
 
--- a write failed: where the calls that are to fail are told, they name it
-abbrev pub IsFailed : Device → Device → Type 0
-IsFailed old new = (new ≡ not_written new.faults old) × Rose old.faults new.faults × IsTold old true
+-- a listing was answered, where no list names the call: by the least position that is stored behind the cursor and below the bound
+abbrev pub IsAnswered : Cursor → Bound → Device → Option ObjectId → Device → Type 0
+IsAnswered cursor to old next new = (new ≡ listed old) × IsTold kinds.List old false × IsNext (is_stored old.stored) cursor to next
+
+-- a call of a kind failed: where the calls that are to fail are told, they name it
+abbrev pub IsFailed : CallKind → Device → Device → Type 0
+IsFailed kind old new = (new ≡ not_answered kind new.faults old) × Rose old.faults new.faults × IsTold kind old true
 
 -- what a write leaves, by its answer; without memory nothing changes
 abbrev pub IsWritten : {A : Type 0} → Item → Device → Result A MediumError → Device → Type 0
 IsWritten item old (Ok _) new = IsDone item old new
-IsWritten item old (Err Failed) new = IsFailed old new
+IsWritten item old (Err Failed) new = IsFailed kinds.Write old new
 IsWritten item old (Err Memory) new = new ≡ old
+
+-- what a listing answers, and what it leaves; without memory nothing changes
+abbrev pub IsListed : Cursor → Bound → Device → Result (Option ObjectId) MediumError → Device → Type 0
+IsListed cursor to old (Ok next) new = IsAnswered cursor to old next new
+IsListed cursor to old (Err Failed) new = IsFailed kinds.List old new
+IsListed cursor to old (Err Memory) new = new ≡ old
 
 -- a device after damage to a copy
 abbrev pub with_damage : Family → ℕ → Damage → Device → Device

@@ -10,5 +10,6 @@ device_of ram = record {
   stored = stored ram.store;
   faults = ram.faults;
   writes = record { made = ram.writes; failed = ram.failed_writes };
+  lists = record { made = ram.lists; failed = ram.failed_lists };
   failing = Some ram.failing;
 }

@@ -3,4 +3,6 @@
 pub enum CallKind {
     /// A write of an item.
     Write,
+    /// The next position of a listing.
+    List,
 }

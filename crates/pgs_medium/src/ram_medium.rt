@@ -1,8 +1,9 @@
-ghost use Rattle.std.specs.Prelude.{◌≡◌, Some};
+ghost use Rattle.std.specs.Prelude.{◌≡◌, Some, IfOk};
 ghost use Rattle.std.specs.Option.{option_copied};
-ghost use Rattle.pgs_store.specs.Stores.{nothing_stored};
-ghost use Rattle.pgs_medium.specs.Calls.{is_named, one_more};
-ghost use Rattle.pgs_medium.specs.Device.{IsWritten, IsDamaged, empty_device};
+ghost use Rattle.pgs_range.specs.Listed.{IsNext};
+ghost use Rattle.pgs_store.specs.Stores.{nothing_stored, is_stored};
+ghost use Rattle.pgs_medium.specs.Calls.{is_named};
+ghost use Rattle.pgs_medium.specs.Device.{empty_device};
 ghost use Rattle.pgs_medium.specs.Ram.{device_of};
 
 use crate::call_kind::CallKind;
@@ -12,7 +13,8 @@ use crate::medium::Medium;
 use crate::medium_error::MediumError;
 use pgs_cause::raised;
 use pgs_copy::{Damage, ObjCopy};
-use pgs_name::Family;
+use pgs_name::{Family, ObjectId};
+use pgs_range::{Bound, Cursor};
 use pgs_store::Store;
 use sqlite_items::Items;
 use std::alloc::{AllocError, Global};
@@ -26,6 +28,8 @@ pub struct RamMedium {
     faults: u64,
     writes: u64,
     failed_writes: u64,
+    lists: u64,
+    failed_lists: u64,
 }
 
 impl RamMedium {
@@ -42,6 +46,8 @@ impl RamMedium {
             faults: 0,
             writes: 0,
             failed_writes: 0,
+            lists: 0,
+            failed_lists: 0,
         }
     }
 
@@ -51,6 +57,13 @@ impl RamMedium {
     {
         self.store.copy(family, snap)
     }
+
+    /// The least position behind a cursor and below a bound. It is no call of the device.
+    pub fn least(&self, cursor: &Cursor, to: &Bound) -> Result<Option<ObjectId>, AllocError>
+        ensures { IfOk result (λ next. IsNext (is_stored (device_of self.now).stored) cursor.now to.now next) }
+    {
+        self.store.next(cursor, to)
+    }
 }
 
 impl Medium for RamMedium {
@@ -58,7 +71,7 @@ impl Medium for RamMedium {
 
     fn write(&mut self, item: &Item) -> Result<(), MediumError> {
         let writes = raised(self.writes);
-        if is_listed(self.failing.as_slice(), CallKind::Write, writes) {
+        if is_failing(self.failing.as_slice(), CallKind::Write, writes) {
             self.writes = writes;
             self.failed_writes = raised(self.failed_writes);
             self.faults = raised(self.faults);
@@ -70,6 +83,19 @@ impl Medium for RamMedium {
         Ok(())
     }
 
+    fn next(&mut self, cursor: &Cursor, to: &Bound) -> Result<Option<ObjectId>, MediumError> {
+        let lists = raised(self.lists);
+        if is_failing(self.failing.as_slice(), CallKind::List, lists) {
+            self.lists = lists;
+            self.failed_lists = raised(self.failed_lists);
+            self.faults = raised(self.faults);
+            return Err(MediumError::Failed);
+        }
+        let next = self.store.next(cursor, to)?;
+        self.lists = lists;
+        Ok(next)
+    }
+
     fn damage(&mut self, family: &Family, snap: u64, damage: &Damage) -> Result<(), AllocError> {
         self.store.damage(self.alloc, family, snap, damage)
     }
@@ -79,7 +105,8 @@ impl Medium for RamMedium {
     }
 }
 
-fn is_listed(failing: &[FailingCall], kind: CallKind, number: u64) -> bool
+// Whether a list names the call of this kind and number.
+fn is_failing(failing: &[FailingCall], kind: CallKind, number: u64) -> bool
     ensures { result ≡ is_named kind number failing.now }
 {
     failing

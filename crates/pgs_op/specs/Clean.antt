@@ -1,9 +1,8 @@
 -- How the clean store is seen: by what it stores, and by the bytes that it holds.
-use Rattle.std.specs.Prelude.{ℕ, List}
-use Rattle.pgs_name.specs.Families.{Family}
+use Rattle.std.specs.Prelude.{ℕ}
 use Rattle.pgs_name.specs.declared.object_id.TheConstants.{HEAD}
 use Rattle.pgs_store.specs.Stores.{Stored}
-use Rattle.pgs_store.specs.Kept.{stored, touched}
+use Rattle.pgs_store.specs.Kept.{stored}
 use Rattle.pgs_op.specs.Effects.{held_after}
 use Rattle.pgs_op.specs.declared.clean_store.CleanStore.{CleanStore}
 use Rattle.pgs_op.specs.declared.write.Write.{Write}
@@ -11,10 +10,6 @@ use Rattle.pgs_op.specs.declared.write.Write.{Write}
 -- what it stores
 abbrev pub clean : CleanStore → Stored
 clean c = stored c.store
-
--- the families that were written, in the order of their first writes
-abbrev pub touched_by : CleanStore → List Family
-touched_by c = touched c.store
 
 -- the bytes that it holds
 abbrev pub held_by : CleanStore → ℕ

@@ -1,8 +1,8 @@
-ghost use Rattle.std.specs.Prelude.{◌≡◌, ◌≤◌, [], OnOk, OnErr};
+ghost use Rattle.std.specs.Prelude.{◌≡◌, ◌≤◌, OnOk, OnErr};
 ghost use Rattle.std.specs.Option.{option_copied};
 ghost use Rattle.pgs_name.specs.declared.object_id.TheConstants.{HEAD};
-ghost use Rattle.pgs_store.specs.Stores.{AreSame, nothing_stored, affected, noted};
-ghost use Rattle.pgs_op.specs.Clean.{clean, held_by, held_with, touched_by};
+ghost use Rattle.pgs_store.specs.Stores.{AreSame, nothing_stored, affected};
+ghost use Rattle.pgs_op.specs.Clean.{clean, held_by, held_with};
 ghost use Rattle.pgs_op.specs.declared.limits.TheConstants.{STORE_MAX};
 
 use crate::held::Held;
@@ -25,7 +25,6 @@ impl CleanStore {
     pub fn new(alloc: Global) -> CleanStore
         ensures stored { AreSame (clean result) nothing_stored }
         ensures held { held_by result ≡ 0 }
-        ensures touched { touched_by result ≡ [] }
     {
         CleanStore {
             store: Store::new(alloc),
@@ -38,13 +37,6 @@ impl CleanStore {
         ensures { option_copied result ≡ clean self.now family.now HEAD }
     {
         self.store.copy(family, HEAD)
-    }
-
-    /// The families that were written, in the order of their first writes.
-    pub fn families(&self) -> &[Family]
-        ensures { result.now ≡ touched_by self.now }
-    {
-        self.store.families()
     }
 
     /// How many bytes its copies hold.
@@ -65,9 +57,7 @@ impl CleanStore {
         requires { held_with self.old write.now ≤ STORE_MAX }
         ensures ok { OnOk result (AreSame (clean self.new) (affected write.now.family effects.now (clean self.old))) }
         ensures held { OnOk result (held_by self.new ≡ held_with self.old write.now) }
-        ensures touched { OnOk result (touched_by self.new ≡ noted write.now.family (touched_by self.old)) }
         ensures err { OnErr result (AreSame (clean self.new) (clean self.old)) }
-        ensures err_touched { OnErr result (touched_by self.new ≡ touched_by self.old) }
         ensures err_held { OnErr result (held_by self.new ≡ held_by self.old) }
     {
         let bytes = sizes::new_held(self.held.bytes, self.head(&write.family), &write.op);
