@@ -1,0 +1,2 @@
+-- Entries are found by halves.
+pub mod Found

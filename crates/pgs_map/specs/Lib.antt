@@ -1,0 +1,2 @@
+-- Entries of stored copies.
+pub mod Entries
