@@ -58,7 +58,7 @@ tied_accepted g past write version effects new tied e li lids lb cl hl p t c s =
           ∙ (λ i. affected write.family (made i).effects (clean (log past)) f q);
       holds = hl ∙ (λ i. held_after (tied.holds i) (head i) write.op) ∙ sym (held_more (log past) version write);
       scrubs = s ∙ tied.scrubs;
-      ordered = tied.ordered;
+      ordered = (tt, tied.ordered);
       pulls = λ osd. subst (λ x. count_of x osd ≡ pulled past osd) (sym p) (tied.pulls osd);
       tells = λ osd. subst (λ x. count_of x osd ≡ told past osd) (sym t) (tied.tells osd);
       collects = λ id. subst (λ x. contains same_id x id ≡ collected past id) (sym c) (tied.collects id);

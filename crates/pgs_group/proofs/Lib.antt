@@ -1,3 +1,6 @@
 -- Laws of groups.
 pub mod Accepted
 pub mod Finds
+pub mod Maps
+pub mod Counting
+pub mod Scrubs

@@ -6,12 +6,12 @@ use Rattle.pgs_history.specs.declared.event.Event.{Event}
 use Rattle.pgs_group.specs.declared.scrubbing.Scrubbing.{Scrubbing}
 
 abbrev pub scrubbing : List Event → Scrubbing
-scrubbing past = record { begun = begun past; opened = opened past; running = running past; open = open_chunk past; start = start past }
+scrubbing past = record { begun = begun past; opened = opened past; running = running past; open_chunk = open_chunk past; start = start past }
 
 -- after the open chunk, if there is one, was closed
 abbrev pub closed : Scrubbing → Scrubbing
 closed s = record s {
-  running = if is_last s.open then None else s.running;
-  open = None;
-  start = end_of s.open s.start;
+  running = if is_last s.open_chunk then None else s.running;
+  open_chunk = None;
+  start = end_of s.open_chunk s.start;
 }

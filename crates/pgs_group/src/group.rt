@@ -70,7 +70,7 @@ impl Group {
                 begun: 0,
                 opened: 0,
                 running: None,
-                open: None,
+                open_chunk: None,
                 start: Bound::Min,
             },
         }
@@ -273,7 +273,7 @@ impl Group {
         ensures value { option_copied result ≡ open_chunk self.now.past }
         ensures fates { IsLegal self.now.made self.now.past → AreFated self.now.past }
     {
-        self.scrubs.open.as_ref()
+        self.scrubs.open_chunk.as_ref()
     }
 
     /// Its events, the oldest first. The closed chunks of each scrub lie in a row from the least bound on, and those of one

@@ -5,7 +5,7 @@ ghost use Rattle.pgs_range.specs.declared.bound.Bound.TheVariants.{Min};
 ghost use Rattle.pgs_group.specs.Scrubbing.{closed};
 
 use pgs_history::{Chunk, TakeAnswer};
-use pgs_range::Bound;
+use pgs_range::{Bound, FamilyRange};
 
 /// Where the scrubs of a group are.
 #[derive(Drop)]
@@ -17,7 +17,7 @@ pub struct Scrubbing {
     /// The scrub that runs.
     pub running: Option<u64>,
     /// The chunk that is open.
-    pub open: Option<Chunk>,
+    pub open_chunk: Option<Chunk>,
     /// Where the next chunk begins.
     pub start: Bound,
 }
@@ -38,17 +38,17 @@ impl Scrubbing {
 
     /// A chunk more is open.
     pub fn open(&mut self, chunk: Chunk)
-        ensures { self.new ≡ record self.old { opened = chunk.number; open = Some chunk } }
+        ensures { self.new ≡ record self.old { opened = chunk.number; open_chunk = Some chunk } }
     {
         self.opened = chunk.number;
-        self.open = Some(chunk);
+        self.open_chunk = Some(chunk);
     }
 
     /// Whether the chunk of a number is open.
     pub fn is_open(&self, chunk: u64) -> bool
-        ensures { result ≡ has_number self.now.open chunk }
+        ensures { result ≡ has_number self.now.open_chunk chunk }
     {
-        match &self.open {
+        match &self.open_chunk {
             Some(open) => open.number == chunk,
             None => false,
         }
@@ -56,12 +56,12 @@ impl Scrubbing {
 
     /// The answer to a map of a chunk.
     pub fn take_answer(&self, chunk: u64) -> TakeAnswer
-        ensures { result ≡ taken_by self.now.open chunk }
+        ensures { result ≡ taken_by self.now.open_chunk chunk }
     {
         if self.is_open(chunk) {
             return TakeAnswer::Taken;
         }
-        match &self.open {
+        match &self.open_chunk {
             Some(open) => TakeAnswer::Stale {
                 chunk_now: Some(open.number),
             },
@@ -71,17 +71,26 @@ impl Scrubbing {
 
     /// The chunk that is open is so no more. Answers whether its scrub is complete.
     pub fn close(&mut self) -> bool
-        ensures answer { result ≡ is_last self.old.open }
+        ensures answer { result ≡ is_last self.old.open_chunk }
         ensures kept { self.new ≡ closed self.old }
     {
-        let Some(chunk) = self.open.take() else {
+        let Some(chunk) = self.open_chunk.take() else {
             return false;
         };
-        let completes = is_greatest(&chunk.range.to);
+        let to = end_of(chunk);
+        let completes = is_greatest(&to);
         self.running = if completes { None } else { self.running };
-        self.start = chunk.range.to;
+        self.start = to;
         completes
     }
+}
+
+fn end_of(chunk: Chunk) -> Bound
+    ensures { result ≡ chunk.range.to }
+{
+    let Chunk { range, .. } = chunk;
+    let FamilyRange { to, .. } = range;
+    to
 }
 
 fn is_greatest(bound: &Bound) -> bool

@@ -7,7 +7,7 @@ use pgs_history::{Event, TakeAnswer};
 use pgs_map::ScrubMap;
 
 /// The map of a chunk that an OSD gave last. It is looked for from the newest event on.
-#[tactic(auto, using(crate::proofs::Taken::taken_here, crate::proofs::Taken::taken_below))]
+#[tactic(auto, using(crate::proofs::Maps::taken_here, crate::proofs::Maps::taken_below))]
 pub fn taken(events: &[Event], chunk: u64, osd: u32) -> Option<&ScrubMap>
     ensures { option_copied result ≡ taken (reverse events.now) chunk osd }
 {

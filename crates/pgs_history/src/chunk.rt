@@ -1,4 +1,7 @@
+ghost use Rattle.std.specs.Prelude.{◌≡◌};
+
 use pgs_range::FamilyRange;
+use std::alloc::AllocError;
 
 /// A chunk of a scrub, as it was opened.
 #[derive(Drop)]
@@ -15,4 +18,20 @@ pub struct Chunk {
     pub limit: u32,
     /// Whether it gives way to no write.
     pub firm: bool,
+}
+
+impl Clone for Chunk {
+    ghost is_clone = { λ a b. b ≡ a };
+
+    fn clone(&self) -> Result<Chunk, AllocError> {
+        let range = self.range.clone()?;
+        Ok(Chunk {
+            number: self.number,
+            serial: self.serial,
+            range,
+            version: self.version,
+            limit: self.limit,
+            firm: self.firm,
+        })
+    }
 }

@@ -39,6 +39,13 @@ impl CleanStore {
         self.store.copy(family, HEAD)
     }
 
+    /// The copy at a snap of a family.
+    pub fn copy(&self, family: &Family, snap: u64) -> Option<&ObjCopy>
+        ensures { option_copied result ≡ clean self.now family.now snap }
+    {
+        self.store.copy(family, snap)
+    }
+
     /// How many bytes its copies hold.
     pub fn held(&self) -> u64
         ensures held { result ≡ held_by self.now }

@@ -47,7 +47,7 @@ impl Group {
         requires some { is_some (primary self.now.made) ≡ true }
         ensures { IfOk result (λ next. IsNextChunk self.now.made self.now.past next) }
     {
-        if let Some(open) = &self.scrubs.open {
+        if let Some(open) = &self.scrubs.open_chunk {
             return Ok(NextChunk::Already { chunk: open.number });
         }
         let Some(primary) = self.made.members.as_slice().first() else {
@@ -90,7 +90,7 @@ impl Group {
         ensures legal { IsLegal self.old.made self.old.past → IsLegal self.new.made self.new.past }
     {
         self.events.reserve(1)?;
-        if let Some(open) = &self.scrubs.open {
+        if let Some(open) = &self.scrubs.open_chunk {
             let chunk = open.number;
             let answer = OpenAnswer::Already { chunk };
             self.events.push_reserved(Event::Open {

@@ -1,0 +1,112 @@
+-- Scrubs and chunks are no more than events.
+use Rattle.std.proofs.Common.{ℕ, ◌≡◌, ◌≤◌, ◌<◌, ◌+◌, ◌^◌, ◌==◌, ◌||◌, nat_lt, Bool, true, false, not, List, [], ◌∷◌, length, reverse, Option, Some, None, refl, sym, ap, ◌∙◌, subst, arith}
+use Rattle.std.specs.Prelude.{option_map}
+use Rattle.std.specs.Bool.{then_some}
+use Rattle.std.specs.HashSet.{contains}
+use Rattle.std.proofs.lemmas.List.{length-reverse}
+use Rattle.pgs_store.specs.Stores.{AreSame}
+use Rattle.pgs_op.specs.Clean.{clean as clean_of, held_by}
+use Rattle.pgs_op.specs.Effects.{first}
+use Rattle.pgs_op_log.specs.Logs.{same_id}
+use Rattle.pgs_history.specs.Log.{clean, log}
+use Rattle.pgs_history.specs.Scrubs.{begun, opened, is_open}
+use Rattle.pgs_history.specs.Answers.{unclosed, missing}
+use Rattle.pgs_history.specs.declared.made.Made.{Made}
+use Rattle.pgs_history.specs.declared.close_answer.CloseAnswer.{CloseAnswer}
+use Rattle.pgs_history.specs.declared.close_answer.CloseAnswer.TheVariants as closes
+use Rattle.pgs_group.specs.Counts.{count_of}
+use Rattle.pgs_group.specs.Tied.{AreTied}
+use Rattle.pgs_group.specs.declared.group.Group.TheInside.{Inside}
+use Rattle.pgs_history.specs.declared.begin_answer.BeginAnswer.TheVariants.{Busy, Began}
+use Rattle.pgs_history.specs.declared.open_answer.OpenAnswer.TheVariants.{Already, Opened}
+use Rattle.pgs_history.specs.declared.event.Event.{Event}
+use Rattle.pgs_group.specs.Scrubbing.{scrubbing}
+use Rattle.pgs_group.specs.declared.scrubbing.Scrubbing.{Scrubbing}
+use Rattle.pgs_history.specs.declared.event.Event.TheVariants.{Submit, Collect, Pull, Tell, Begin, Open, Take, Close}
+
+pub begun_most : (past : List Event) → begun past ≤ length past
+begun_most [] = omega arith
+begun_most (Begin kind (Began serial) ∷ past) = let h = begun_most past in omega (arith, h)
+begun_most (Begin kind (Busy serial) ∷ past) = let h = begun_most past in omega (arith, h)
+begun_most (Submit write answer ∷ past) = let h = begun_most past in omega (arith, h)
+begun_most (Collect id version ∷ past) = let h = begun_most past in omega (arith, h)
+begun_most (Pull osd from to ∷ past) = let h = begun_most past in omega (arith, h)
+begun_most (Tell osd applied ∷ past) = let h = begun_most past in omega (arith, h)
+begun_most (Open serial listed answer ∷ past) = let h = begun_most past in omega (arith, h)
+begun_most (Take place map answer ∷ past) = let h = begun_most past in omega (arith, h)
+begun_most (Close chunk answer ∷ past) = let h = begun_most past in omega (arith, h)
+
+pub opened_most : (past : List Event) → opened past ≤ length past
+opened_most [] = omega arith
+opened_most (Open serial listed (Opened chunk) ∷ past) = let h = opened_most past in omega (arith, h)
+opened_most (Open serial listed (Already chunk) ∷ past) = let h = opened_most past in omega (arith, h)
+opened_most (Submit write answer ∷ past) = let h = opened_most past in omega (arith, h)
+opened_most (Collect id version ∷ past) = let h = opened_most past in omega (arith, h)
+opened_most (Pull osd from to ∷ past) = let h = opened_most past in omega (arith, h)
+opened_most (Tell osd applied ∷ past) = let h = opened_most past in omega (arith, h)
+opened_most (Begin kind answer ∷ past) = let h = opened_most past in omega (arith, h)
+opened_most (Take place map answer ∷ past) = let h = opened_most past in omega (arith, h)
+opened_most (Close chunk answer ∷ past) = let h = opened_most past in omega (arith, h)
+
+pub begun_room : (s : Scrubbing) (events : List Event) (len room : ℕ) → s ≡ scrubbing (reverse events) → len ≡ length events → len ≤ room → room < 2 ^ 63 → s.begun + 1 < 2 ^ 64
+begun_room s events len room is whole within small =
+    let same : s.begun ≡ begun (reverse events) = ap (λ x. x.begun) is in
+    let most : begun (reverse events) ≤ length (reverse events) = begun_most (reverse events) in
+    let long : length (reverse events) ≡ length events = length-reverse events in
+    omega (arith, same, most, long, whole, within, small)
+
+pub opened_room : (s : Scrubbing) (events : List Event) (len room : ℕ) → s ≡ scrubbing (reverse events) → len ≡ length events → len ≤ room → room < 2 ^ 63 → s.opened + 1 < 2 ^ 64
+opened_room s events len room is whole within small =
+    let same : s.opened ≡ opened (reverse events) = ap (λ x. x.opened) is in
+    let most : opened (reverse events) ≤ length (reverse events) = opened_most (reverse events) in
+    let long : length (reverse events) ≡ length events = length-reverse events in
+    omega (arith, same, most, long, whole, within, small)
+
+still : (g : Inside) (past : List Event) (chunk : ℕ) (answer : CloseAnswer) → scrubbing (Close chunk answer ∷ past) ≡ scrubbing past → AreTied g past
+    → AreTied g (Close chunk answer ∷ past)
+still g past chunk answer e t = record {
+  log_items = t.log_items;
+  log_ids = t.log_ids;
+  log_counts = t.log_counts;
+  cleans = t.cleans;
+  holds = t.holds;
+  pulls = t.pulls;
+  tells = t.tells;
+  scrubs = t.scrubs ∙ sym e;
+  ordered = (tt, t.ordered);
+  collects = t.collects;
+}
+
+-- why a chunk wasn't closed isn't that it was
+not_closed : (a b : Bool) (m : Option ℕ) (findings : ℕ) (completes : Bool)
+    → first (then_some a closes.NoChunk ∷ then_some b closes.ClosedBefore ∷ option_map (λ osd. closes.NotYet osd) m ∷ []) ≡ Some (closes.Closed findings completes) → ⊥
+not_closed true b m findings completes e = absurd cc
+not_closed false true m findings completes e = absurd cc
+not_closed false false (Some osd) findings completes e = absurd cc
+not_closed false false None findings completes e = absurd cc
+
+-- a chunk that isn't closed leaves the scrubs as they are
+pub tied_unclosed : (g : Inside) (made : Made) (past : List Event) (chunk : ℕ) (answer : CloseAnswer) → unclosed made past chunk ≡ Some answer → AreTied g past
+    → AreTied g (Close chunk answer ∷ past)
+unfolding unclosed
+tied_unclosed g made past chunk closes.NoChunk e t = still g past chunk closes.NoChunk refl t
+tied_unclosed g made past chunk closes.ClosedBefore e t = still g past chunk closes.ClosedBefore refl t
+tied_unclosed g made past chunk (closes.NotYet osd) e t = still g past chunk (closes.NotYet osd) refl t
+tied_unclosed g made past chunk (closes.Closed findings completes) e t =
+    absurd (not_closed ((chunk == 0) || nat_lt (opened past) chunk) (not (is_open past chunk)) (missing made past chunk) findings completes e)
+
+-- the same fields are tied to the same events
+pub tied_same : (g new : Inside) (past : List Event) → new.log ≡ g.log → new.clean ≡ g.clean → new.pulled ≡ g.pulled → new.told ≡ g.told → new.collected ≡ g.collected
+    → new.scrubs ≡ g.scrubs → AreTied g past → AreTied new past
+tied_same g new past l c p d o s t = record {
+  log_items = ap (λ x. x.items) l ∙ t.log_items;
+  log_ids = ap (λ x. x.ids) l ∙ t.log_ids;
+  log_counts = ap (λ x. x.bytes) l ∙ t.log_counts;
+  cleans = subst (λ x. AreSame (clean_of x) (clean (log past))) (sym c) t.cleans;
+  holds = ap held_by c ∙ t.holds;
+  pulls = λ osd. ap (λ x. count_of x osd) p ∙ t.pulls osd;
+  tells = λ osd. ap (λ x. count_of x osd) d ∙ t.tells osd;
+  scrubs = s ∙ t.scrubs;
+  ordered = t.ordered;
+  collects = λ id. ap (λ x. contains same_id x id) o ∙ t.collects id;
+}
