@@ -1,4 +1,5 @@
 //! Each file tests one topic.
+mod listings;
 mod logs;
 mod making;
 mod orders;

@@ -9,7 +9,7 @@ pub fn family(alloc: Global, space: &[u8], key: &[u8], name: &[u8]) -> Result<Fa
     let space = Bytes::from_slice(alloc, space)?;
     let key = Bytes::from_slice(alloc, key)?;
     let name = Bytes::from_slice(alloc, name)?;
-    Ok(Family { space, key, name })
+    Family::new(space, key, name)
 }
 
 /// A write of so many bytes.

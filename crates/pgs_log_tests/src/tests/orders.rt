@@ -1,5 +1,5 @@
 use crate::tests::making::family;
-use pgs_range::{compare, hash, reverse_bits};
+use pgs_name::reverse_bits;
 use std::cmp::Ordering;
 use std::test::Fail;
 
@@ -21,10 +21,10 @@ fn bits_in_the_other_order(rt: HostRuntime) -> Result<(), Fail> {
 #[test]
 fn hashes(rt: HostRuntime) -> Result<(), Fail> {
     let alloc = rt.alloc();
-    assert_eq!(rt; hash(&family(alloc, b"", b"", b"a")?), 0x458F_6330);
-    assert_eq!(rt; hash(&family(alloc, b"s", b"", b"a")?), 0x6827_71AC);
-    assert_eq!(rt; hash(&family(alloc, b"", b"b", b"a")?), 0x56DF_90C4);
-    assert_eq!(rt; hash(&family(alloc, b"", b"", b"b")?), 0x56DF_90C4);
+    assert_eq!(rt; family(alloc, b"", b"", b"a")?.hash(), 0x458F_6330);
+    assert_eq!(rt; family(alloc, b"s", b"", b"a")?.hash(), 0x6827_71AC);
+    assert_eq!(rt; family(alloc, b"", b"b", b"a")?.hash(), 0x56DF_90C4);
+    assert_eq!(rt; family(alloc, b"", b"", b"b")?.hash(), 0x56DF_90C4);
     Ok(())
 }
 
@@ -36,9 +36,9 @@ fn order_of_families(rt: HostRuntime) -> Result<(), Fail> {
     let c = family(alloc, b"", b"", b"c")?;
     let d = family(alloc, b"", b"", b"d")?;
     let a_by_b = family(alloc, b"", b"b", b"a")?;
-    assert!(rt; compare(&a, &b) == Ordering::Less);
-    assert!(rt; compare(&d, &c) == Ordering::Less);
-    assert!(rt; compare(&b, &a_by_b) == Ordering::Greater);
-    assert!(rt; compare(&b, &b) == Ordering::Equal);
+    assert!(rt; a.cmp(&b) == Ordering::Less);
+    assert!(rt; d.cmp(&c) == Ordering::Less);
+    assert!(rt; b.cmp(&a_by_b) == Ordering::Greater);
+    assert!(rt; b.cmp(&b) == Ordering::Equal);
     Ok(())
 }
