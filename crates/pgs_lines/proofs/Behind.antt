@@ -14,9 +14,12 @@ join_begins : (w : List ℕ) (ws : List (List ℕ)) → join_with_byte 32 (w ∷
 join_begins w [] = sym (append-nil w)
 join_begins w (v ∷ ws) = ap (λ r. w ++ 32 ∷ r) (join_begins v ws)
 
-behind_more : (ws vs : List (List ℕ)) → behind (ws ++ vs) ≡ behind ws ++ behind vs
+pub behind_more : (ws vs : List (List ℕ)) → behind (ws ++ vs) ≡ behind ws ++ behind vs
 behind_more [] vs = refl
 behind_more (w ∷ ws) vs = ap (λ r. 32 ∷ w ++ r) (behind_more ws vs) ∙ ap (λ r. 32 ∷ r) (sym (append_assoc w (behind ws) (behind vs)))
+
+-- words behind words
+pub ruleset spreads = (append_assoc, append-nil, behind_more)
 
 join_more : (ws vs : List (List ℕ)) → has_some ws ≡ true → join_with_byte 32 (ws ++ vs) ≡ begins ws ++ behind vs
 join_more [] vs e = absurd (true_false (sym e))
@@ -29,7 +32,9 @@ step_some (dones.Pull group osd before now) = refl
 step_some (dones.Apply group osd answer) = refl
 step_some (dones.Tell group osd applied) = refl
 step_some (dones.Damage group osd object snap damage) = refl
-step_some (dones.Close group chunk findings snaps) = refl
+step_some (dones.Begin group kind answer) = refl
+step_some (dones.Open group answer) = refl
+step_some (dones.Close group answer) = refl
 
 -- the line of what was done, as it is appended
 pub printed : (d : Done) (out : List ℕ) → (((out ++ begins (step_words d)) ++ behind (codes ":" ∷ [])) ++ behind (answer_words d)) ++ 10 ∷ [] ≡ out ++ done_line d

@@ -11,7 +11,10 @@ use Rattle.pgs_request.specs.declared.answers.WriteAnswer.{WriteAnswer}
 use Rattle.pgs_request.specs.declared.answers.WriteAnswer.TheVariants as writes
 use Rattle.pgs_request.specs.declared.answers.CollectAnswer.{CollectAnswer}
 use Rattle.pgs_request.specs.declared.answers.CollectAnswer.TheVariants as collects
+use Rattle.pgs_lines.specs.Objects.{kind_word}
 use Rattle.pgs_lines.specs.Basics.{basic_said}
+use Rattle.pgs_lines.specs.Ranges.{as_kept}
+use Rattle.pgs_lines.specs.Scrubs.{begin_words, open_words, close_words}
 use Rattle.pgs_lines.specs.declared.basic.Basic.TheVariants as basics
 use Rattle.pgs_lines.specs.declared.apply_answer.ApplyAnswer.{ApplyAnswer}
 use Rattle.pgs_lines.specs.declared.apply_answer.ApplyAnswer.TheVariants as applies
@@ -47,21 +50,19 @@ apply_words (applies.Applied number) = codes "applied" ∷ decimal number ∷ []
 apply_words (applies.NotYet applied) = codes "not-yet" ∷ decimal applied ∷ []
 apply_words (applies.DeviceFault count) = codes "device-fault" ∷ decimal count ∷ []
 
-abbrev pub close_words : ℕ → ℕ → ℕ → List (List ℕ)
-close_words chunk findings snaps =
-    codes "closed" ∷ decimal chunk ∷ codes "findings" ∷ decimal findings ∷ codes "snaps" ∷ decimal snaps ∷ codes "completes" ∷ []
-
 -- ---- lines
 
--- the words of what was done, as a script spells them
+-- the words of what was done, as a script spells them, with its object as it is kept
 abbrev pub step_words : Done → List (List ℕ)
-step_words (dones.Write client serial object op answer) = (basic_said (basics.Write client serial object op)).words
+step_words (dones.Write client serial object op answer) = (basic_said (basics.Write client serial (as_kept object) op)).words
 step_words (dones.Collect group client serial answer) = (basic_said (basics.Collect group client serial)).words
 step_words (dones.Pull group osd before now) = (basic_said (basics.Pull group osd)).words
 step_words (dones.Apply group osd answer) = (basic_said (basics.Apply group osd)).words
 step_words (dones.Tell group osd applied) = (basic_said (basics.Tell group osd)).words
-step_words (dones.Damage group osd object snap damage) = (basic_said (basics.Damage group osd object snap damage)).words
-step_words (dones.Close group chunk findings snaps) = codes "close" ∷ decimal group ∷ []
+step_words (dones.Damage group osd object snap damage) = (basic_said (basics.Damage group osd (as_kept object) snap damage)).words
+step_words (dones.Begin group kind answer) = codes "begin" ∷ decimal group ∷ kind_word kind ∷ []
+step_words (dones.Open group answer) = codes "open" ∷ decimal group ∷ []
+step_words (dones.Close group answer) = codes "close" ∷ decimal group ∷ []
 
 abbrev pub answer_words : Done → List (List ℕ)
 answer_words (dones.Write client serial object op answer) = write_words answer
@@ -70,7 +71,9 @@ answer_words (dones.Pull group osd before now) = codes "pulled" ∷ decimal befo
 answer_words (dones.Apply group osd answer) = apply_words answer
 answer_words (dones.Tell group osd applied) = codes "told" ∷ decimal applied ∷ []
 answer_words (dones.Damage group osd object snap damage) = codes "damaged" ∷ []
-answer_words (dones.Close group chunk findings snaps) = close_words chunk findings snaps
+answer_words (dones.Begin group kind answer) = begin_words group answer
+answer_words (dones.Open group answer) = open_words answer
+answer_words (dones.Close group answer) = close_words answer
 
 -- words with one space between two of them, and the line's end
 abbrev pub line_of : List (List ℕ) → List ℕ

@@ -4,4 +4,6 @@ pub mod Objects
 pub mod Basics
 pub mod Steps
 pub mod Lines
+pub mod Ranges
+pub mod Scrubs
 pub mod Done

@@ -1,6 +1,10 @@
 use crate::apply_answer::ApplyAnswer;
+use crate::begin_answer::BeginAnswer;
+use crate::close_answer::CloseAnswer;
 use crate::damage::Damage;
+use crate::kind::Kind;
 use crate::object::Object;
+use crate::open_answer::OpenAnswer;
 use crate::snap::Snap;
 use pgs_request::{CollectAnswer, Op, WriteAnswer};
 
@@ -73,15 +77,27 @@ pub enum Done {
         /// The change.
         damage: Damage,
     },
-    /// The last chunk of a scrub was closed.
+    /// A scrub was to begin.
+    Begin {
+        /// The group.
+        group: u32,
+        /// What the scrub looks at.
+        kind: Kind,
+        /// The answer.
+        answer: BeginAnswer,
+    },
+    /// The next chunk of a scrub was to be opened.
+    Open {
+        /// The group.
+        group: u32,
+        /// The answer.
+        answer: OpenAnswer,
+    },
+    /// The last chunk of a scrub was to be closed.
     Close {
         /// The group.
         group: u32,
-        /// The number of the chunk.
-        chunk: u64,
-        /// How many objects have findings.
-        findings: u64,
-        /// How many objects have findings about their clones.
-        snaps: u64,
+        /// The answer.
+        answer: CloseAnswer,
     },
 }

@@ -3,7 +3,7 @@ use Rattle.std.proofs.Common.{◌≡◌, ℕ, ◌==◌, ◌^◌, ◌≤◌, ◌&
 use Rattle.std.specs.Prelude.{nat_lt, is_none}
 use Rattle.std.specs.List.{list_any}
 use Rattle.std.proofs.lemmas.Bool.Decides.{nat_tests}
-use Rattle.pgs_bytes.proofs.Facts.{both, joined, true_false}
+use Rattle.pgs_bytes.proofs.Facts.{both, true_false}
 use Rattle.pgs_words.specs.Forms.{has_some}
 use Rattle.pgs_words.specs.Fields.{number, positive}
 use Rattle.pgs_lines.specs.Lines.{line_said, members_form}
@@ -13,7 +13,7 @@ use Rattle.pgs_lines.specs.declared.step.Step.{Step}
 use Rattle.pgs_lines.specs.declared.step.Step.TheVariants as steps
 use Rattle.pgs_lines.specs.declared.line.Line.{Line}
 use Rattle.pgs_lines.specs.declared.line.Line.TheVariants as lines
-use Rattle.pgs_order.specs.Order.{nothing_said, has, has_group, is_in, is_member, are_declared, are_distinct, is_below, is_of_pool, has_all, are_whole, is_unplaced, basic_is_named, step_is_named, allows, passes, after, group_follows}
+use Rattle.pgs_order.specs.Order.{nothing_said, has, has_group, is_in, is_member, are_declared, are_distinct, is_below, is_of_pool, has_all, are_whole, basic_is_named, step_is_named, allows, passes, after, group_follows}
 use Rattle.pgs_order.specs.Ordered.{IsGroup, AreGroups, HasOne, AreNamed, IsOrdered}
 use Rattle.pgs_order.specs.declared.declarations.Group.{Group}
 use Rattle.pgs_order.specs.declared.step_script.StepScript.{StepScript}
@@ -37,9 +37,7 @@ basic_named_more gs more (basics.Collect group client serial) e = any_more (λ g
 basic_named_more gs more (basics.Pull group osd) e = any_more (is_in group osd) gs more e
 basic_named_more gs more (basics.Apply group osd) e = any_more (is_in group osd) gs more e
 basic_named_more gs more (basics.Tell group osd) e = any_more (is_in group osd) gs more e
-basic_named_more gs more (basics.Damage group osd object snap damage) e =
-    let h : (is_member gs group osd ≡ true) × (is_unplaced object ≡ true) = both (is_member gs group osd) (is_unplaced object) e in
-    joined (is_member (gs ++ more) group osd) (is_unplaced object) (any_more (is_in group osd) gs more h.0) h.1
+basic_named_more gs more (basics.Damage group osd object snap damage) e = any_more (is_in group osd) gs more e
 
 named_more : (gs more : List Group) (s : Step) → step_is_named gs s ≡ true → step_is_named (gs ++ more) s ≡ true
 named_more gs more (steps.Basic b) e = basic_named_more gs more b e

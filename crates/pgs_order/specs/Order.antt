@@ -1,7 +1,6 @@
 -- Which lines of a script may follow which.
 use Rattle.std.specs.Prelude.{ℕ, ◌==◌, ◌^◌, ◌&&◌, ◌||◌, Bool, true, false, not, nat_lt, nat_le, List, [], ◌∷◌, ◌++◌, length, Option, Some, None, is_some, is_none}
 use Rattle.std.specs.List.{list_any, list_all}
-use Rattle.pgs_lines.specs.declared.object.Object.{Object}
 use Rattle.pgs_lines.specs.declared.basic.Basic.{Basic}
 use Rattle.pgs_lines.specs.declared.basic.Basic.TheVariants as basics
 use Rattle.pgs_lines.specs.declared.step.Step.{Step}
@@ -86,18 +85,15 @@ abbrev pub group_follows : Declarations → ℕ → List ℕ → Bool
 group_follows declared group members =
     is_of_pool declared.bits group && not (has_group declared.groups group) && are_declared declared.osds members && are_distinct members
 
--- an object with no space and no key: for now no line has others
-abbrev pub is_unplaced : Object → Bool
-is_unplaced object = (length object.space == 0) && (length object.key == 0)
-
--- whether what a step names is declared
+-- whether what a step names is declared: a group, and where it names an OSD, a member of it. A write names neither. Its
+-- object's space, key and name say which group it goes to, and as long as the pool has one group, every object is of it
 abbrev pub basic_is_named : List Group → Basic → Bool
-basic_is_named groups (basics.Write client serial object op) = is_unplaced object
+basic_is_named groups (basics.Write client serial object op) = true
 basic_is_named groups (basics.Collect group client serial) = has_group groups group
 basic_is_named groups (basics.Pull group osd) = is_member groups group osd
 basic_is_named groups (basics.Apply group osd) = is_member groups group osd
 basic_is_named groups (basics.Tell group osd) = is_member groups group osd
-basic_is_named groups (basics.Damage group osd object snap damage) = is_member groups group osd && is_unplaced object
+basic_is_named groups (basics.Damage group osd object snap damage) = is_member groups group osd
 
 abbrev pub step_is_named : List Group → Step → Bool
 step_is_named groups (steps.Basic basic) = basic_is_named groups basic

@@ -6,7 +6,7 @@ use crate::members::{
     are_declared, are_distinct, are_whole, has_group, has_osd, is_member, is_of_pool,
 };
 use crate::step_script::StepScript;
-use pgs_lines::{Basic, Line, Object, Step};
+use pgs_lines::{Basic, Line, Step};
 use sqlite_items::Items;
 use std::alloc::{AllocError, Global};
 
@@ -52,27 +52,16 @@ fn group_follows(declared: &Declarations, group: u32, members: &[u32]) -> bool
         && are_distinct(members)
 }
 
-fn is_unplaced(object: &Object) -> bool
-    ensures { result ≡ order.is_unplaced object.now }
-{
-    object.space.is_empty() && object.key.is_empty()
-}
-
 fn basic_is_named(groups: &[Group], basic: &Basic) -> bool
     ensures { result ≡ order.basic_is_named groups.now basic.now }
 {
     match basic {
-        Basic::Write { object, .. } => is_unplaced(object),
+        Basic::Write { .. } => true,
         Basic::Collect { group, .. } => has_group(groups, *group),
         Basic::Pull { group, osd } => is_member(groups, *group, *osd),
         Basic::Apply { group, osd } => is_member(groups, *group, *osd),
         Basic::Tell { group, osd } => is_member(groups, *group, *osd),
-        Basic::Damage {
-            group,
-            osd,
-            object,
-            ..
-        } => is_member(groups, *group, *osd) && is_unplaced(object),
+        Basic::Damage { group, osd, .. } => is_member(groups, *group, *osd),
     }
 }
 

@@ -1,5 +1,8 @@
 //! Each file tests one topic.
 mod lines;
+mod objects;
 mod printed;
+mod printing;
 mod scripts;
+mod scrubs;
 mod words;

@@ -108,20 +108,3 @@ pub fn push_pulled(alloc: Global, from: u64, to: u64, out: &mut Vec<u8>) -> Resu
     push_count(alloc, b"pulled", from, out)?;
     push_number(alloc, to, out)
 }
-
-/// Appends what a `close` was answered.
-#[tactic(auto, using(crate::proofs::Behind::joins))]
-pub fn push_closed(
-    alloc: Global,
-    chunk: u64,
-    findings: u64,
-    snaps: u64,
-    out: &mut Vec<u8>,
-) -> Result<(), AllocError>
-    ensures { OnOk result (out.new.items ≡ out.old.items ++ behind (done.close_words chunk findings snaps)) }
-{
-    push_count(alloc, b"closed", chunk, out)?;
-    push_count(alloc, b"findings", findings, out)?;
-    push_count(alloc, b"snaps", snaps, out)?;
-    push_word(b"completes", out)
-}

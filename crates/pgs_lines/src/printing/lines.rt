@@ -2,10 +2,9 @@ ghost use Rattle.std.specs.Prelude.{◌≡◌, ◌++◌, OnOk};
 ghost use Rattle.pgs_lines.specs.Done as done_lines;
 ghost use Rattle.pgs_lines.specs.Done.{behind, begins};
 
-use super::answers::{
-    push_applied, push_closed, push_collected, push_count, push_pulled, push_written,
-};
-use super::steps::{push_close, push_collect, push_damage_step, push_member, push_write};
+use super::answers::{push_applied, push_collected, push_count, push_pulled, push_written};
+use super::scrubs::{push_begin, push_begun, push_closed, push_group, push_opened};
+use super::steps::{push_collect, push_damage_step, push_member, push_write};
 use super::words::push_word;
 use crate::done::Done;
 use std::alloc::{AllocError, Global};
@@ -38,7 +37,9 @@ fn push_step(alloc: Global, done: &Done, out: &mut Vec<u8>) -> Result<(), AllocE
             snap,
             damage,
         } => push_damage_step(alloc, *group, *osd, object, *snap, *damage, out),
-        Done::Close { group, .. } => push_close(alloc, *group, out),
+        Done::Begin { group, kind, .. } => push_begin(alloc, *group, *kind, out),
+        Done::Open { group, .. } => push_group(alloc, b"open", *group, out),
+        Done::Close { group, .. } => push_group(alloc, b"close", *group, out),
     }
 }
 
@@ -53,16 +54,14 @@ fn push_answer(alloc: Global, done: &Done, out: &mut Vec<u8>) -> Result<(), Allo
         Done::Apply { answer, .. } => push_applied(alloc, *answer, out),
         Done::Tell { applied, .. } => push_count(alloc, b"told", *applied, out),
         Done::Damage { .. } => push_word(b"damaged", out),
-        Done::Close {
-            chunk,
-            findings,
-            snaps,
-            ..
-        } => push_closed(alloc, *chunk, *findings, *snaps, out),
+        Done::Begin { group, answer, .. } => push_begun(alloc, *group, *answer, out),
+        Done::Open { answer, .. } => push_opened(alloc, answer, out),
+        Done::Close { answer, .. } => push_closed(alloc, *answer, out),
     }
 }
 
-/// Appends the line of what was done. The words of an object are printed as they stand in it.
+/// Appends the line of what was done. The words of an object are printed as they stand in it, but for a key that is equal
+/// to the name: a dash stands for it, as for none.
 #[tactic(auto, using(crate::proofs::Behind::printed))]
 pub fn print(alloc: Global, done: &Done, out: &mut Vec<u8>) -> Result<(), AllocError>
     ensures { OnOk result (out.new.items ≡ out.old.items ++ done_lines.done_line done.now) }

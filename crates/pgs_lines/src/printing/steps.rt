@@ -1,24 +1,17 @@
 ghost use Rattle.std.specs.Prelude.{◌≡◌, ◌++◌, ◌∷◌, [], OnOk, codes};
-ghost use Rattle.std.specs.Fmt.{decimal};
 ghost use Rattle.pgs_lines.specs.Objects as objects;
 ghost use Rattle.pgs_lines.specs.Basics as basics;
-ghost use Rattle.pgs_lines.specs.Done.{behind};
+ghost use Rattle.pgs_lines.specs.Done.{behind, begins};
+ghost use Rattle.pgs_lines.specs.Ranges.{as_kept};
+ghost use Rattle.pgs_lines.specs.declared.basic.Basic.TheVariants as said;
 
-use super::words::{push_dashed, push_number, push_payload, push_word};
+use super::objects::push_object;
+use super::words::{push_number, push_payload, push_word};
 use crate::damage::Damage;
 use crate::object::Object;
 use crate::snap::Snap;
 use pgs_request::Op;
 use std::alloc::{AllocError, Global};
-
-#[tactic(auto, using(crate::proofs::Behind::joins))]
-fn push_object(object: &Object, out: &mut Vec<u8>) -> Result<(), AllocError>
-    ensures { OnOk result (out.new.items ≡ out.old.items ++ behind ((objects.space).spell object.now.space ∷ (objects.key).spell object.now.key ∷ object.now.name ∷ [])) }
-{
-    push_dashed(&object.space, out)?;
-    push_dashed(&object.key, out)?;
-    push_word(object.name.as_slice(), out)
-}
 
 #[tactic(auto, using(crate::proofs::Behind::joins))]
 fn push_op(alloc: Global, op: &Op, out: &mut Vec<u8>) -> Result<(), AllocError>
@@ -63,7 +56,7 @@ pub fn push_write(
     op: &Op,
     out: &mut Vec<u8>,
 ) -> Result<(), AllocError>
-    ensures { OnOk result (out.new.items ≡ out.old.items ++ (codes "write" ++ behind ((basics.write_form).spell (client, (serial, (object.now.space, (object.now.key, (object.now.name, op.now)))))))) }
+    ensures { OnOk result (out.new.items ≡ out.old.items ++ begins (basics.basic_said (said.Write client serial (as_kept object.now) op.now)).words) }
 {
     out.extend_from_slice(b"write")?;
     push_number(alloc, u64::from(client), out)?;
@@ -117,19 +110,10 @@ pub fn push_damage_step(
     damage: Damage,
     out: &mut Vec<u8>,
 ) -> Result<(), AllocError>
-    ensures { OnOk result (out.new.items ≡ out.old.items ++ (codes "damage" ++ behind ((basics.damage_form).spell (group, (osd, (object.now.space, (object.now.key, (object.now.name, (snap, damage))))))))) }
+    ensures { OnOk result (out.new.items ≡ out.old.items ++ begins (basics.basic_said (said.Damage group osd (as_kept object.now) snap damage)).words) }
 {
     push_member(alloc, b"damage", group, osd, out)?;
     push_object(object, out)?;
     push_snap(snap, out)?;
     push_damage(alloc, damage, out)
-}
-
-/// Appends the words of a `close`.
-#[tactic(auto, using(crate::proofs::Behind::joins))]
-pub fn push_close(alloc: Global, group: u32, out: &mut Vec<u8>) -> Result<(), AllocError>
-    ensures { OnOk result (out.new.items ≡ out.old.items ++ (codes "close" ++ behind (decimal group ∷ []))) }
-{
-    out.extend_from_slice(b"close")?;
-    push_number(alloc, u64::from(group), out)
 }

@@ -1,5 +1,6 @@
+use super::printing::{object, says};
 use pgs_bytes::Bytes;
-use pgs_lines::{ApplyAnswer, Damage, Done, Object, Snap, print};
+use pgs_lines::{ApplyAnswer, Damage, Done, Snap};
 use pgs_request::{CollectAnswer, Declined, Op, Payload, Refusal, Version, WriteAnswer};
 use std::alloc::{AllocError, Global};
 use std::test::Fail;
@@ -8,26 +9,6 @@ const FIRST: Version = Version {
     epoch: 4,
     number: 1,
 };
-
-// Whether this is the line of what was done.
-fn says(alloc: Global, done: Done, wanted: &[u8]) -> Result<bool, AllocError> {
-    let mut out = Vec::new(alloc);
-    out.extend_from_slice(b"before\n")?;
-    print(alloc, &done, &mut out)?;
-    let mut whole = Vec::new(alloc);
-    whole.extend_from_slice(b"before\n")?;
-    whole.extend_from_slice(wanted)?;
-    whole.push(b'\n')?;
-    Ok(out.as_slice() == whole.as_slice())
-}
-
-fn object(alloc: Global, name: &[u8]) -> Result<Object, AllocError> {
-    Ok(Object {
-        space: Bytes::new(alloc),
-        key: Bytes::new(alloc),
-        name: Bytes::from_slice(alloc, name)?,
-    })
-}
 
 fn write(alloc: Global, payload: Payload, answer: WriteAnswer) -> Result<Done, AllocError> {
     Ok(Done::Write {
@@ -189,18 +170,5 @@ fn others(rt: HostRuntime) -> Result<(), Fail> {
         damage: Damage::Flip { at: 9, xor: 255 },
     };
     assert!(rt; says(alloc, done, b"damage 0 5 - - : head flip 9 255 : damaged")?);
-    let done = Done::Close {
-        group: 0,
-        chunk: 2,
-        findings: 1,
-        snaps: 0,
-    };
-    assert!(rt;
-        says(
-            alloc,
-            done,
-            b"close 0 : closed 2 findings 1 snaps 0 completes"
-        )?
-    );
     Ok(())
 }

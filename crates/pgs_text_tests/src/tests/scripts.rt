@@ -96,8 +96,10 @@ fn steps(rt: HostRuntime) -> Result<(), Fail> {
         (b"tell 1 0\n".as_slice(), "BadLine 6"),
         (b"collect 1 1 1\n".as_slice(), "BadLine 6"),
         (b"sweep 0 repair\n".as_slice(), "BadLine 6"),
-        (b"write 1 1 s - a - full text:\n".as_slice(), "BadLine 6"),
-        (b"damage 0 0 - k a head flip 0 1\n".as_slice(), "BadLine 6"),
+        (
+            b"write 1 1 s k a - full text:\ndamage 0 0 s k a head flip 0 1\nend\n".as_slice(),
+            "Steps 2",
+        ),
         (b"damage 0 1 - - a head flip 0 1\n".as_slice(), "BadLine 6"),
     ];
     for (rest, wanted) in rows {

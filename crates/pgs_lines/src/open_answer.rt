@@ -1,0 +1,26 @@
+use crate::range::Range;
+
+/// What a scrub is answered that asks for its next chunk.
+#[derive(Drop)]
+pub enum OpenAnswer {
+    /// A chunk was opened.
+    Opened {
+        /// The number of the chunk.
+        chunk: u64,
+        /// What it covers.
+        range: Range,
+        /// The number of the last item of the log that touches it.
+        version: u64,
+        /// How many positions it may have, where it has more than one family.
+        limit: u32,
+        /// Whether no write may drop the chunk.
+        firm: bool,
+    },
+    /// A chunk is open.
+    Already {
+        /// The number of that chunk.
+        chunk: u64,
+    },
+    /// No scrub of the group goes on.
+    NoScrub,
+}
