@@ -1,9 +1,9 @@
 -- A listing by one position at a time goes on, stops and ends.
-use Rattle.std.proofs.Common.{ℕ, zero, suc, ◌≡◌, ◌<◌, ◌≤◌, ◌+◌, Bool, true, false, cond, ◌&&◌, List, [], ◌∷◌, ◌++◌, length, filter, Option, Some, None, Err, IfSome, refl, sym, ap, ◌∙◌, subst, arith}
-use Rattle.std.proofs.lemmas.List.{append_assoc, append-nil}
+use Rattle.std.proofs.Common.{ℕ, zero, suc, ◌≡◌, ◌<◌, ◌≤◌, Bool, true, false, cond, ◌&&◌, List, [], ◌∷◌, ◌++◌, length, filter, Option, Some, None, Err, IfSome, refl, sym, ap, ◌∙◌, subst, arith}
+use Rattle.std.proofs.lemmas.List.{append_assoc}
 use Rattle.pgs_bytes.proofs.Facts.{true_false}
 use Rattle.pgs_name.specs.declared.object_id.ObjectId.{ObjectId}
-use Rattle.pgs_range.specs.Ranges.{is_at_most, is_above}
+use Rattle.pgs_range.specs.Ranges.{is_at_most}
 use Rattle.pgs_range.specs.Listed.{is_ahead, IsNext}
 use Rattle.pgs_range.specs.declared.bound.Bound.{Bound}
 use Rattle.pgs_range.specs.declared.bound.Bound.TheVariants.{Max}

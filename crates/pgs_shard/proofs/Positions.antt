@@ -1,5 +1,5 @@
 -- The positions of a history are those at which a copy is stored.
-use Rattle.std.proofs.Common.{ℕ, ◌≡◌, ◌⊎◌, inl, inr, Bool, true, false, cond, nat_eq, ◌==◌, ◌&&◌, ◌||◌, List, [], ◌∷◌, filter, Option, Some, None, refl, sym, ap, ◌∙◌, subst, arith}
+use Rattle.std.proofs.Common.{ℕ, ◌≡◌, inl, inr, Bool, true, false, cond, nat_eq, ◌==◌, ◌&&◌, List, [], ◌∷◌, Option, Some, None, refl, sym, ap, ◌∙◌, arith}
 use Rattle.std.specs.Prelude.{is_some}
 use Rattle.std.specs.List.{list_any}
 use Rattle.std.proofs.lemmas.Bool.Decides.{nat_tests}
@@ -17,7 +17,7 @@ use Rattle.pgs_chunk.specs.Listings.{placed, IsListOf}
 use Rattle.pgs_chunk.proofs.Members.{placed_ascends, placed_has, filter_has, filter_ascends, none_ascend}
 use Rattle.pgs_chunk.proofs.Ordered.{or_left, or_second}
 use Rattle.pgs_store.specs.Firsts.{at_snap}
-use Rattle.pgs_store.specs.Stores.{Stored, is_stored, affected, harmed}
+use Rattle.pgs_store.specs.Stores.{Stored, is_stored, harmed}
 use Rattle.pgs_medium.specs.declared.item.Item.{Item}
 use Rattle.pgs_shard.specs.Feeds.{fed, item_of}
 use Rattle.pgs_shard.specs.Stores.{after_item, stored_by}

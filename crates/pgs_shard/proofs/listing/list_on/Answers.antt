@@ -1,4 +1,4 @@
-use Rattle.std.proofs.Common.{rules, ◌≡◌, ◌<◌, true, false, List, [], ◌∷◌, ◌++◌, length, reverse, Some, None, Err, sym, ap, subst}
+use Rattle.std.proofs.Common.{rules, ◌≡◌, ◌<◌, true, false, [], ◌∷◌, ◌++◌, length, reverse, Some, None, Err, sym, subst}
 use Rattle.pgs_medium.specs.Device.{IsAnswered}
 use Rattle.pgs_medium.specs.declared.medium_error.MediumError.TheVariants.{Memory}
 use Rattle.pgs_chunk.specs.Positions.{Ascends}

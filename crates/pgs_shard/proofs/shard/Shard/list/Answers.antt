@@ -1,8 +1,7 @@
-use Rattle.std.proofs.Common.{◌≡◌, ℕ, [], ◌∷◌, List, Option, reverse, rules, ap, sym, ◌∙◌}
+use Rattle.std.proofs.Common.{◌≡◌, [], ◌∷◌, reverse, rules, ap, ◌∙◌}
 use Rattle.std.proofs.lemmas.List.{reverse-append}
 use Rattle.pgs_cause.specs.Count.{Rose}
-use Rattle.pgs_medium.specs.declared.failing_call.FailingCall.{FailingCall}
-use Rattle.pgs_shard.specs.Listed.{calls_for, answered, IsFailedAfter, IsListFault}
+use Rattle.pgs_shard.specs.Listed.{calls_for}
 use Rattle.pgs_shard.specs.Stores.{last_count}
 use Rattle.pgs_shard.specs.declared.event.Event.TheVariants.{ListFailed}
 use Rattle.pgs_shard.proofs.Listings.{tied_answered, tied_failed, due_failed, failed_is, memory_is, answered_failing, failed_failing, memory_failing, told_failed, legal_failed}
