@@ -30,7 +30,7 @@ fewer_or_all count long h = elim (true_or_false (nat_lt count long)) [
   | inr e ↦ inr (grind (arith, nat_tests))
 ]
 
-one_longer : {X : Type 0} (xs : List X) (x : X) → length (xs ++ x ∷ []) ≡ suc (length xs)
+pub one_longer : {X : Type 0} (xs : List X) (x : X) → length (xs ++ x ∷ []) ≡ suc (length xs)
 one_longer [] x = refl
 one_longer (y ∷ xs) x = ap suc (one_longer xs x)
 

@@ -171,3 +171,7 @@ pub next_some : (held : ObjectId → Bool) (cursor : Cursor) (to : Bound) (ids :
 next_some held cursor to ids id is next =
     let found = some_by held cursor to ids id is next (filter (is_ahead cursor to) ids) refl in
     found.1 ∙ ap (λ l. id ∷ l) (sym (tail_by cursor to ids id found.0 is.ascends found.1 next.1))
+
+pub none_ascend : Ascends []
+unfolding IsStrictlySortedBy
+none_ascend = tt

@@ -17,11 +17,11 @@ pub or_right : (a b : Bool) → a ≡ false → (a || b) ≡ true → b ≡ true
 or_right true b p q = absurd (true_false p)
 or_right false b p q = q
 
-or_left : (a b : Bool) → a ≡ true → (a || b) ≡ true
+pub or_left : (a b : Bool) → a ≡ true → (a || b) ≡ true
 or_left true b p = refl
 or_left false b p = absurd (true_false (sym p))
 
-or_second : (a b : Bool) → b ≡ true → (a || b) ≡ true
+pub or_second : (a b : Bool) → b ≡ true → (a || b) ≡ true
 or_second true b p = refl
 or_second false b p = p
 

@@ -2,3 +2,5 @@
 pub mod Feeds
 pub mod Laws
 pub mod Ties
+pub mod Positions
+pub mod Listings

@@ -3,6 +3,7 @@ use Rattle.std.specs.Prelude.{ℕ, ◌≡◌, ◌+◌, ◌<◌, List, ◌∷◌,
 use Rattle.pgs_name.specs.Families.{Family}
 use Rattle.pgs_copy.specs.declared.damage.Damage.{Damage}
 use Rattle.pgs_medium.specs.Device.{Device, IsWritten, IsDone, IsFailed}
+use Rattle.pgs_medium.specs.declared.call_kind.CallKind.TheVariants as kinds
 use Rattle.pgs_medium.specs.declared.item.Item.{Item}
 use Rattle.pgs_medium.specs.declared.medium_error.MediumError.{MediumError}
 use Rattle.pgs_shard.specs.Feeds.{fed, item_of}
@@ -28,7 +29,7 @@ IsDoneAt (Some item) old new = IsDone item old new
 abbrev pub IsApplied : List Event → Device → Result Applied ApplyError → Device → Type 0
 IsApplied past old (Ok (applied.NotYet count)) new = (count ≡ applied_in past) × (count ≡ length (fed past)) × (new ≡ old)
 IsApplied past old (Ok (applied.Applied number)) new = (number ≡ applied_in past + 1) × IsDoneAt (item_of number (fed past)) old new
-IsApplied past old (Err (DeviceFault count)) new = (applied_in past < length (fed past)) × (count ≡ new.faults) × IsFailed old new
+IsApplied past old (Err (DeviceFault count)) new = (applied_in past < length (fed past)) × (count ≡ new.faults) × IsFailed kinds.Write old new
 IsApplied past old (Err Memory) new = new ≡ old
 
 -- the history after an answer: an item that is applied is kept, and so is a fault of the device

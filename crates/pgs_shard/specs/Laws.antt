@@ -6,7 +6,7 @@ use Rattle.pgs_medium.specs.declared.item.Item.{Item}
 use Rattle.pgs_shard.specs.Feeds.{fed, item_of}
 use Rattle.pgs_shard.specs.Stores.{applied, last_count, stored_by}
 use Rattle.pgs_shard.specs.declared.event.Event.{Event}
-use Rattle.pgs_shard.specs.declared.event.Event.TheVariants.{Applied, DeviceFault, Damaged}
+use Rattle.pgs_shard.specs.declared.event.Event.TheVariants.{Applied, DeviceFault, ListFailed, Damaged}
 
 -- the items up to a number, of items with the newest first
 abbrev pub upto : ℕ → List Item → List Item
@@ -49,6 +49,7 @@ AreHarmless past = AllByRecursion (λ event. is_harmless event ≡ true) past
 -- a fault's count stands in front of those before
 abbrev pub counts_after : Event → List ℕ → List ℕ
 counts_after (DeviceFault count) before = count ∷ before
+counts_after (ListFailed count) before = count ∷ before
 counts_after _ before = before
 
 -- the counts of faults that were kept, the newest first

@@ -5,3 +5,4 @@ pub mod Laws
 pub mod Legal
 pub mod State
 pub mod Stores
+pub mod Listed

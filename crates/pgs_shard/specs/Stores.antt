@@ -4,7 +4,7 @@ use Rattle.pgs_store.specs.Stores.{Stored, nothing_stored, affected, harmed}
 use Rattle.pgs_medium.specs.declared.item.Item.{Item}
 use Rattle.pgs_shard.specs.Feeds.{fed, item_of}
 use Rattle.pgs_shard.specs.declared.event.Event.{Event}
-use Rattle.pgs_shard.specs.declared.event.Event.TheVariants.{Applied, DeviceFault, Damaged}
+use Rattle.pgs_shard.specs.declared.event.Event.TheVariants.{Applied, DeviceFault, ListFailed, Damaged}
 
 -- an item that is applied is the last one applied
 abbrev pub applied_after : Event → ℕ → ℕ
@@ -35,6 +35,7 @@ stored_by (event ∷ past) = stored_after event (fed past) (stored_by past)
 -- a fault of the device has the newest count
 abbrev pub last_count_after : Event → ℕ → ℕ
 last_count_after (DeviceFault count) before = count
+last_count_after (ListFailed count) before = count
 last_count_after _ before = before
 
 -- the newest count of faults that was kept: 0 before the first

@@ -19,6 +19,10 @@ pub enum Event {
     DeviceFault {
         count: u64,
     },
+    /// The device failed at a listing, and its count of faults was this.
+    ListFailed {
+        count: u64,
+    },
     /// A copy was damaged.
     Damaged {
         family: Family,

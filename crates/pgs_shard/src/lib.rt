@@ -5,10 +5,13 @@ mod applied;
 mod apply_error;
 mod event;
 mod items_beyond;
+mod list_error;
+mod listing;
 mod shard;
 mod writing;
 
 pub use applied::Applied;
 pub use apply_error::ApplyError;
 pub use event::Event;
+pub use list_error::ListError;
 pub use shard::Shard;

@@ -1,13 +1,15 @@
-ghost use Rattle.std.specs.Prelude.{◌≡◌, ◌≤◌, [], length, reverse, OnOk, OnErr, IfSome, false};
-ghost use Rattle.pgs_store.specs.Stores.{nothing_stored};
+ghost use Rattle.std.specs.Prelude.{◌≡◌, ◌≤◌, ℕ, [], length, reverse, OnOk, OnErr, IfOk, IfSome, false};
+ghost use Rattle.pgs_store.specs.Stores.{nothing_stored, is_stored};
 ghost use Rattle.pgs_medium.specs.Calls.{is_named, one_more};
 ghost use Rattle.pgs_medium.specs.Device.{IsDamaged};
-ghost use Rattle.pgs_medium.specs.declared.call_kind.CallKind.TheVariants.{Write};
+ghost use Rattle.pgs_medium.specs.declared.call_kind.CallKind.TheVariants.{Write, List as Listing};
 ghost use Rattle.pgs_shard.specs.Feeds.{AreNext, AreNumbered, fed};
 ghost use Rattle.pgs_shard.specs.Stores.{applied, stored_by};
 ghost use Rattle.pgs_shard.specs.Answers.{IsApplied, IsDeviceFault, past_after_apply, past_after_damage};
 ghost use Rattle.pgs_shard.specs.Legal.{IsLegal};
 ghost use Rattle.pgs_shard.specs.Laws.{IsLawful};
+ghost use Rattle.pgs_chunk.specs.Listings.{IsListOf, listing};
+ghost use Rattle.pgs_shard.specs.Listed.{positions, IsListAnswer, IsListFault, past_after_list};
 ghost use Rattle.pgs_shard.specs.State.{with_event};
 ghost use Rattle.pgs_shard.specs.declared.event.Event.TheVariants.{Fed};
 
@@ -15,10 +17,13 @@ use crate::applied::Applied;
 use crate::apply_error::ApplyError;
 use crate::event::Event;
 use crate::items_beyond::copied_beyond;
+use crate::list_error::ListError;
+use crate::listing::list_on;
 use crate::writing::write_at;
 use pgs_copy::Damage;
 use pgs_medium::{Item, Medium, MediumError};
-use pgs_name::Family;
+use pgs_name::{Family, ObjectId};
+use pgs_range::Bound;
 use sqlite_items::Items;
 use std::alloc::{AllocError, Global};
 use std::marker::Model;
@@ -91,6 +96,9 @@ impl<M: Medium> Shard<M> {
     pub fn medium(&self) -> &M
         ensures value { result.now ≡ self.now.medium }
         ensures stored { (M.device self.now.medium).stored ≡ stored_by self.now.past }
+
+        // The positions that the history names and at which a copy is stored are all at which one is.
+        ensures positions { IsListOf (is_stored (stored_by self.now.past)) (positions self.now.past) }
     {
         &self.medium
     }
@@ -152,6 +160,36 @@ impl<M: Medium> Shard<M> {
                 Err(ApplyError::DeviceFault { count })
             }
             Err(MediumError::Memory) => Err(ApplyError::Memory),
+        }
+    }
+
+    /// The positions from a bound on, in order, until more than `limit` of at least two families are listed. After an error
+    /// nothing of the store has changed.
+    pub fn list(&mut self, start: &Bound, limit: u32) -> Result<Items<ObjectId>, ListError>
+        ensures listed { IfOk result (λ ids. ids ≡ listing limit start.now (positions self.old.past)) }
+        ensures answer { IsListAnswer limit (M.device self.old.medium) result (M.device self.new.medium) }
+        ensures kept { self.new.past ≡ past_after_list result self.old.past }
+        ensures osd { self.new.osd ≡ self.old.osd }
+        ensures failing { (M.device self.new.medium).failing ≡ (M.device self.old.medium).failing }
+        ensures told { IfSome (M.device self.old.medium).failing (λ calls.
+            ((number : ℕ) → is_named Listing number calls ≡ false) → IsListFault result → ⊥) }
+        ensures legal { IsLegal self.old.past → IsLegal self.new.past }
+    {
+        self.events.reserve(1)?;
+        match list_on(
+            &mut self.medium,
+            self.alloc,
+            self.events.as_slice(),
+            start,
+            limit,
+        ) {
+            Ok(listed) => Ok(listed),
+            Err(MediumError::Failed) => {
+                let count = self.medium.faults();
+                self.events.push_reserved(Event::ListFailed { count });
+                Err(ListError::ListFault { count })
+            }
+            Err(MediumError::Memory) => Err(ListError::Memory),
         }
     }
 

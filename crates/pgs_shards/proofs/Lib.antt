@@ -1,3 +1,4 @@
 -- Laws of the members' histories.
 pub mod Members
 pub mod Places
+pub mod Made

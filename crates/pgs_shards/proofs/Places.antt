@@ -5,6 +5,15 @@ use Rattle.std.specs.List.{position_or_len}
 use Rattle.std.proofs.lemmas.Bool.Decides.{nat_tests}
 use Rattle.pgs_bytes.proofs.Facts.{none_some, some_none, some_same}
 use Rattle.pgs_medium.specs.declared.ram_medium.RamMedium.{RamMedium}
+use Rattle.pgs_name.specs.declared.object_id.ObjectId.{ObjectId}
+use Rattle.pgs_range.specs.declared.bound.Bound.{Bound}
+use Rattle.pgs_range.specs.declared.family_range.FamilyRange.{FamilyRange}
+use Rattle.pgs_chunk.specs.Listings.{listing}
+use Rattle.pgs_map.specs.declared.entry.Entry.{Entry}
+use Rattle.pgs_medium.specs.Calls.{is_named}
+use Rattle.pgs_medium.specs.declared.call_kind.CallKind.TheVariants.{List as Listing}
+use Rattle.pgs_shard.specs.Listed.{positions}
+use Rattle.pgs_shards.specs.Entries.{entries_in}
 use Rattle.pgs_shard.specs.State.{ShardState}
 use Rattle.pgs_shard.specs.declared.event.Event.{Event}
 use Rattle.pgs_shard.specs.Feeds.{fed}
@@ -215,6 +224,12 @@ module _ (osd : ℕ) (shards : List Shard) (now : List Member) (view : map seen 
     applied_none =
         sym (ap (λ past. cond (waits past) (with_event osd (Applied (applied past + 1)) now) now) (ap (λ members. past_in members osd) (sym view) ∙ past_nowhere osd shards none))
 
+    pub listed_none : (limit : ℕ) (start : Bound) → [] ≡ listing limit start (positions (past_in now osd))
+    listed_none limit start = sym (ap (λ members. listing limit start (positions (past_in members osd))) (sym view) ∙ ap (λ past. listing limit start (positions past)) (past_nowhere osd shards none))
+
+    pub entries_none : (range : FamilyRange) → [] ≡ entries_in range (past_in now osd)
+    entries_none range = sym (ap (λ members. entries_in range (past_in members osd)) (sym view) ∙ ap (entries_in range) (past_nowhere osd shards none))
+
     pub event_none : (event : Event) → now ≡ with_event osd event now
     event_none event = sym view ∙ sym (kept_nowhere osd event shards none) ∙ ap (with_event osd event) view
 
@@ -224,6 +239,12 @@ module _ (osd : ℕ) (shards : List Shard) (now : List Member) (view : map seen 
 
     pub answer_some : (answer : ApplyAnswer) → answer ≡ apply_answer shard.past → answer ≡ apply_answer (past_in now osd)
     answer_some answer e = e ∙ ap apply_answer (sym past_now)
+
+    pub listed_some : (limit : ℕ) (start : Bound) (ids : List ObjectId) → ids ≡ listing limit start (positions shard.past) → ids ≡ listing limit start (positions (past_in now osd))
+    listed_some limit start ids e = e ∙ ap (λ past. listing limit start (positions past)) (sym past_now)
+
+    pub entries_some : (range : FamilyRange) (entries : List Entry) → entries ≡ entries_in range shard.past → entries ≡ entries_in range (past_in now osd)
+    entries_some range entries e = e ∙ ap (entries_in range) (sym past_now)
 
     pub from_some : (from : ℕ) → from ≤ length (fed (past_in now osd)) → from ≤ length (fed shard.past)
     from_some from within = subst (λ past. from ≤ length (fed past)) past_now within
@@ -241,4 +262,9 @@ module _ (osd : ℕ) (shards : List Shard) (now : List Member) (view : map seen 
           (past ∙ ap (λ s. cond (waits s.past) (Applied (applied s.past + 1) ∷ s.past) s.past) is)
           ∙ ap (with_applied osd) view
 
-pub ruleset places = (answer_none, applied_none, event_none, answer_some, from_some, same_some, event_some, applied_some)
+pub ruleset places = (answer_none, applied_none, event_none, listed_none, entries_none, answer_some, listed_some, entries_some, from_some, same_some, event_some, applied_some)
+
+-- ---- a device that is to fail no call
+
+pub none_named : (number : ℕ) → is_named Listing number [] ≡ false
+none_named number = refl

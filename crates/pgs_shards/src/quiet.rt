@@ -1,5 +1,7 @@
 //! One shard, whose device fails no call.
 ghost use Rattle.std.specs.Prelude.{◌≡◌, ◌≤◌, ◌+◌, [], ◌∷◌, length, OnOk, OnErr, IfOk, if◌then◌else◌};
+ghost use Rattle.pgs_chunk.specs.Listings.{listing};
+ghost use Rattle.pgs_shard.specs.Listed.{positions};
 ghost use Rattle.pgs_shard.specs.Feeds.{AreNext, fed};
 ghost use Rattle.pgs_shard.specs.Stores.{applied};
 ghost use Rattle.pgs_shard.specs.declared.event.Event.TheVariants as events;
@@ -8,8 +10,9 @@ ghost use Rattle.pgs_shards.specs.Kept.{IsQuiet};
 
 use pgs_copy::Damage;
 use pgs_medium::{Item, RamMedium};
-use pgs_name::Family;
-use pgs_shard::{Applied, ApplyError, Shard};
+use pgs_name::{Family, ObjectId};
+use pgs_range::Bound;
+use pgs_shard::{Applied, ApplyError, ListError, Shard};
 use sqlite_items::Items;
 use std::alloc::{AllocError, Global};
 
@@ -37,7 +40,6 @@ pub fn feed(shard: &mut Shard<RamMedium>, from: u64, items: Items<Item>) -> Resu
 }
 
 /// Applies the next item, if one waits.
-
 pub fn apply(shard: &mut Shard<RamMedium>) -> Result<Applied, AllocError>
     requires { IsQuiet shard.old }
     ensures answer { IfOk result (λ answer. answer ≡ apply_answer shard.old.past) }
@@ -50,6 +52,26 @@ pub fn apply(shard: &mut Shard<RamMedium>) -> Result<Applied, AllocError>
         Ok(answer) => Ok(answer),
         Err(ApplyError::Memory) => Err(AllocError),
         Err(ApplyError::DeviceFault { .. }) => unreachable!(),
+    }
+}
+
+/// The positions from a bound on, until they are full.
+#[tactic(auto, using(crate::proofs::Places::none_named))]
+pub fn list(
+    shard: &mut Shard<RamMedium>,
+    start: &Bound,
+    limit: u32,
+) -> Result<Items<ObjectId>, AllocError>
+    requires { IsQuiet shard.old }
+    ensures listed { IfOk result (λ ids. ids ≡ listing limit start.now (positions shard.old.past)) }
+    ensures osd { shard.new.osd ≡ shard.old.osd }
+    ensures kept { shard.new.past ≡ shard.old.past }
+    ensures quiet { IsQuiet shard.new }
+{
+    match shard.list(start, limit) {
+        Ok(listed) => Ok(listed),
+        Err(ListError::Memory) => Err(AllocError),
+        Err(ListError::ListFault { .. }) => unreachable!(),
     }
 }
 

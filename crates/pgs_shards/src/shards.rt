@@ -1,14 +1,22 @@
 ghost use Rattle.std.specs.Prelude.{◌≡◌, ◌≤◌, ◌-◌, [], ◌∷◌, ◌++◌, length, map, position, OnOk, OnErr, IfOk};
+ghost use Rattle.pgs_chunk.specs.Listings.{listing};
+ghost use Rattle.pgs_map.specs.Entries.{AreInRange};
+ghost use Rattle.pgs_shard.specs.Listed.{positions};
+ghost use Rattle.pgs_shards.specs.Entries.{entries_in};
 ghost use Rattle.pgs_shard.specs.Feeds.{AreNext, fed};
 ghost use Rattle.pgs_shard.specs.Stores.{applied};
 ghost use Rattle.pgs_shard.specs.declared.event.Event.TheVariants as events;
 ghost use Rattle.pgs_shards.specs.Members.{beginning, past_in, with_event, with_applied, apply_answer};
 ghost use Rattle.pgs_shards.specs.Kept.{is_of, seen};
 
+use crate::entries::entries_of;
 use crate::quiet;
 use pgs_copy::Damage;
+use pgs_crc::Tables;
+use pgs_map::Entry;
 use pgs_medium::{Item, RamMedium};
-use pgs_name::Family;
+use pgs_name::{Family, ObjectId};
+use pgs_range::{Bound, FamilyRange};
 use pgs_shard::{Applied, Shard};
 use sqlite_items::Items;
 use std::alloc::{AllocError, Global};
@@ -17,6 +25,7 @@ use std::marker::Model;
 /// The shards of members, each found by its OSD, and seen by their histories.
 #[derive(Drop)]
 pub struct Shards {
+    alloc: Global,
     items: Vec<Shard<RamMedium>>,
 }
 
@@ -50,7 +59,7 @@ impl Shards {
             let shard = quiet::begin(alloc, *osd);
             items.push(shard)?;
         }
-        Ok(Shards { items })
+        Ok(Shards { alloc, items })
     }
 
     /// The shards, in declared order.
@@ -125,6 +134,48 @@ impl Shards {
                 Ok(())
             }
             None => Ok(()),
+        }
+    }
+
+    /// The positions of an OSD from a bound on, in order, until more than `limit` of at least two families are listed. One
+    /// that is no member has none.
+    #[tactic(auto, using(crate::proofs::Places::places, crate::proofs::Places::quiet_set))]
+    pub fn list(
+        &mut self,
+        osd: u32,
+        start: &Bound,
+        limit: u32,
+    ) -> Result<Items<ObjectId>, AllocError>
+        ensures listed { IfOk result (λ ids. ids ≡ listing limit start.now (positions (past_in self.old osd))) }
+        ensures kept { self.new ≡ self.old }
+    {
+        match place(self.items.as_slice(), osd) {
+            Some(at) => {
+                let shard = &mut self.items[at];
+                let listed = quiet::list(shard, start, limit)?;
+                Ok(listed)
+            }
+            None => Ok(Items::new(self.alloc)),
+        }
+    }
+
+    /// What an OSD stores of a range: an entry for each copy, in the order of positions. It is no call of its device.
+    #[tactic(auto, using(crate::proofs::Places::places, crate::proofs::Made::in_ranges))]
+    pub fn entries(
+        &self,
+        alloc: Global,
+        tables: &Tables<1>,
+        osd: u32,
+        range: &FamilyRange,
+    ) -> Result<Items<Entry>, AllocError>
+        ensures told { IfOk result (λ entries. entries ≡ entries_in range.now (past_in self.now osd)) }
+
+        // They ascend, and lie in the range.
+        ensures in_range { IfOk result (λ entries. AreInRange range.now entries) }
+    {
+        match place(self.items.as_slice(), osd) {
+            Some(at) => entries_of(alloc, tables, &self.items[at], range),
+            None => Ok(Items::new(alloc)),
         }
     }
 

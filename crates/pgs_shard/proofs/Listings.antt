@@ -1,0 +1,220 @@
+-- A listing by one position at a time goes on, stops and ends.
+use Rattle.std.proofs.Common.{ℕ, zero, suc, ◌≡◌, ◌<◌, ◌≤◌, Bool, true, false, cond, ◌&&◌, List, [], ◌∷◌, ◌++◌, length, filter, Option, Some, None, Err, IfSome, refl, sym, ap, ◌∙◌, subst, arith}
+use Rattle.std.proofs.lemmas.List.{append_assoc}
+use Rattle.pgs_bytes.proofs.Facts.{true_false}
+use Rattle.pgs_name.specs.declared.object_id.ObjectId.{ObjectId}
+use Rattle.pgs_range.specs.Ranges.{is_at_most}
+use Rattle.pgs_range.specs.Listed.{is_ahead, IsNext}
+use Rattle.pgs_range.specs.declared.bound.Bound.{Bound}
+use Rattle.pgs_range.specs.declared.bound.Bound.TheVariants.{Max}
+use Rattle.pgs_range.specs.declared.cursor.Cursor.{Cursor}
+use Rattle.pgs_range.specs.declared.cursor.Cursor.TheVariants.{At, After}
+use Rattle.pgs_chunk.specs.Positions.{Ascends}
+use Rattle.pgs_chunk.specs.Selection.{from_start}
+use Rattle.pgs_chunk.specs.Listings.{is_full, listed_on, listing}
+use Rattle.pgs_chunk.proofs.Chunks.{from_ascends}
+use Rattle.pgs_chunk.proofs.Listings.{front_ascends, one_longer}
+use Rattle.pgs_chunk.proofs.Members.{next_none, next_some}
+use Rattle.pgs_store.specs.Stores.{is_stored}
+use Rattle.pgs_medium.specs.Calls.{is_named, one_more}
+use Rattle.pgs_cause.specs.Count.{Rose}
+use Rattle.pgs_medium.specs.Device.{Device, listed, not_listed, IsAnswered, IsFailed}
+use Rattle.pgs_medium.specs.declared.item.Item.{Item}
+use Rattle.pgs_medium.specs.declared.medium_error.MediumError.{MediumError}
+use Rattle.pgs_medium.specs.declared.medium_error.MediumError.TheVariants as errors
+use Rattle.pgs_medium.specs.declared.call_kind.CallKind.TheVariants as kinds
+use Rattle.pgs_medium.specs.declared.failing_call.FailingCall.{FailingCall}
+use Rattle.pgs_shard.specs.Stores.{stored_by, last_count}
+use Rattle.pgs_shard.specs.Legal.{IsLegal}
+use Rattle.pgs_shard.specs.State.{IsTied}
+use Rattle.pgs_shard.specs.Listed.{positions, answered, calls_for, IsFailedAfter, IsListedOn}
+use Rattle.pgs_shard.specs.declared.event.Event.{Event}
+use Rattle.pgs_shard.specs.declared.event.Event.TheVariants.{ListFailed}
+use Rattle.pgs_shard.proofs.Positions.{are_positions}
+
+-- the positions that are still ahead
+abbrev pub ahead : List Event → Cursor → List ObjectId
+ahead past cursor = filter (is_ahead cursor Max) (positions past)
+
+-- what was listed so far, and what is still ahead
+pub record IsOn (limit : ℕ) (start : Bound) (past : List Event) (old now : Device) (ids : List ObjectId) (cursor : Cursor) : Type 0 where
+  pub held : old.stored ≡ stored_by past
+  pub device : now ≡ answered (length ids) old
+  pub left : listing limit start (positions past) ≡ listed_on limit ids (ahead past cursor)
+  pub whole : from_start start (positions past) ≡ ids ++ ahead past cursor
+
+and_true : (a : Bool) → (a && true) ≡ a
+and_true true = refl
+and_true false = refl
+
+same_filter : {X : Type 0} (p q : X → Bool) → ((x : X) → p x ≡ q x) → (xs : List X) → filter p xs ≡ filter q xs
+same_filter p q f [] = refl
+same_filter p q f (x ∷ xs) = ap (λ b. cond b (x ∷ filter p xs) (filter p xs)) (f x) ∙ ap (λ l. cond (q x) (x ∷ l) l) (same_filter p q f xs)
+
+-- from the start on all is ahead
+all_ahead : (start : Bound) (past : List Event) → from_start start (positions past) ≡ ahead past (At start)
+all_ahead start past = same_filter (λ id. is_at_most start id.family) (is_ahead (At start) Max) (λ id. sym (and_true (is_at_most start id.family))) (positions past)
+
+pub begins : (limit : ℕ) (start : Bound) (past : List Event) (old : Device) → old.stored ≡ stored_by past → IsOn limit start past old old [] (At start)
+begins limit start past old h = record { held = h; device = refl; left = ap (listed_on limit []) (all_ahead start past); whole = all_ahead start past }
+
+answered_stores : (calls : ℕ) (device : Device) → (answered calls device).stored ≡ device.stored
+answered_stores zero device = refl
+answered_stores (suc calls) device = answered_stores calls device
+
+pub answered_fails : (calls : ℕ) (device : Device) → (answered calls device).failing ≡ device.failing
+answered_fails zero device = refl
+answered_fails (suc calls) device = answered_fails calls device
+
+pub ascends : (limit : ℕ) (start : Bound) (past : List Event) (old now : Device) (ids : List ObjectId) (cursor : Cursor) → IsOn limit start past old now ids cursor → Ascends ids
+ascends limit start past old now ids cursor on =
+    front_ascends ids (ahead past cursor) (subst Ascends on.whole (from_ascends start (positions past) (are_positions past).ascends))
+
+next_of : (limit : ℕ) (start : Bound) (past : List Event) (old now next : Device) (ids : List ObjectId) (cursor : Cursor) (answer : Option ObjectId)
+    → IsOn limit start past old now ids cursor → IsAnswered cursor Max now answer next → IsNext (is_stored (stored_by past)) cursor Max answer
+next_of limit start past old now next ids cursor answer on is =
+    subst (λ s. IsNext (is_stored s) cursor Max answer) (ap (λ (d : Device). d.stored) on.device ∙ answered_stores (length ids) old ∙ on.held) is.2
+
+-- the next position is listed
+pub goes_on : (limit : ℕ) (start : Bound) (past : List Event) (old now next : Device) (ids : List ObjectId) (cursor : Cursor) (id : ObjectId)
+    → IsOn limit start past old now ids cursor → false ≡ is_full limit ids → IsAnswered cursor Max now (Some id) next
+    → IsOn limit start past old next (ids ++ id ∷ []) (After id)
+goes_on limit start past old now next ids cursor id on some is =
+    let one : ahead past cursor ≡ id ∷ ahead past (After id) =
+    next_some (is_stored (stored_by past)) cursor Max (positions past) id (are_positions past) (next_of limit start past old now next ids cursor (Some id) on is) in
+    record {
+      held = on.held;
+      device = is.0 ∙ ap listed on.device ∙ ap (λ n. answered n old) (sym (one_longer ids id));
+      left = on.left ∙ ap (listed_on limit ids) one
+          ∙ ap (λ b. cond b ids (listed_on limit (ids ++ id ∷ []) (ahead past (After id)))) (sym some);
+      whole = on.whole ∙ ap (λ l. ids ++ l) one ∙ sym (append_assoc ids (id ∷ []) (ahead past (After id)));
+    }
+
+pub fewer : (limit : ℕ) (start : Bound) (past : List Event) (old now next : Device) (ids : List ObjectId) (cursor : Cursor) (id : ObjectId)
+    → IsOn limit start past old now ids cursor → IsAnswered cursor Max now (Some id) next → length (ahead past (After id)) < length (ahead past cursor)
+fewer limit start past old now next ids cursor id on is =
+    let one : ahead past cursor ≡ id ∷ ahead past (After id) =
+    next_some (is_stored (stored_by past)) cursor Max (positions past) id (are_positions past) (next_of limit start past old now next ids cursor (Some id) on is) in
+    subst (λ l. length (ahead past (After id)) < length l) (sym one) (omega arith)
+
+stopped : (limit : ℕ) (ids rest : List ObjectId) → is_full limit ids ≡ true → listed_on limit ids rest ≡ ids
+stopped limit ids [] e = refl
+stopped limit ids (id ∷ rest) e = ap (λ b. cond b ids (listed_on limit (ids ++ id ∷ []) rest)) e
+
+-- enough is listed
+pub stops : (limit : ℕ) (start : Bound) (past : List Event) (old now : Device) (ids : List ObjectId) (cursor : Cursor)
+    → IsOn limit start past old now ids cursor → true ≡ is_full limit ids → ids ≡ listing limit start (positions past)
+stops limit start past old now ids cursor on full = sym (on.left ∙ stopped limit ids (ahead past cursor) (sym full))
+
+pub stops_device : (limit : ℕ) (start : Bound) (past : List Event) (old now : Device) (ids : List ObjectId) (cursor : Cursor)
+    → IsOn limit start past old now ids cursor → true ≡ is_full limit ids → now ≡ answered (calls_for limit ids) old
+stops_device limit start past old now ids cursor on full = on.device ∙ ap (λ b. answered (cond b (length ids) (suc (length ids))) old) full
+
+-- the end is reached
+pub ends : (limit : ℕ) (start : Bound) (past : List Event) (old now next : Device) (ids : List ObjectId) (cursor : Cursor)
+    → IsOn limit start past old now ids cursor → IsAnswered cursor Max now None next → ids ≡ listing limit start (positions past)
+ends limit start past old now next ids cursor on is =
+    let none : ahead past cursor ≡ [] =
+    next_none (is_stored (stored_by past)) cursor Max (positions past) (are_positions past) (next_of limit start past old now next ids cursor None on is) in
+    sym (on.left ∙ ap (listed_on limit ids) none)
+
+pub ends_device : (limit : ℕ) (start : Bound) (past : List Event) (old now next : Device) (ids : List ObjectId) (cursor : Cursor)
+    → IsOn limit start past old now ids cursor → false ≡ is_full limit ids → IsAnswered cursor Max now None next → next ≡ answered (calls_for limit ids) old
+ends_device limit start past old now next ids cursor on some is =
+    is.0 ∙ ap listed on.device ∙ ap (λ b. answered (cond b (length ids) (suc (length ids))) old) some
+
+-- the device fails
+pub failed : (limit : ℕ) (start : Bound) (past : List Event) (old now next : Device) (ids : List ObjectId) (cursor : Cursor)
+    → IsOn limit start past old now ids cursor → IsFailed kinds.List now next → IsFailedAfter old next
+failed limit start past old now next ids cursor on is = record { calls = length ids; failed = subst (λ d. IsFailed kinds.List d next) on.device is }
+
+-- memory runs out
+pub out_of_memory : (limit : ℕ) (start : Bound) (past : List Event) (old now : Device) (ids : List ObjectId) (cursor : Cursor)
+    → IsOn limit start past old now ids cursor → (calls : ℕ) × (now ≡ answered calls old)
+out_of_memory limit start past old now ids cursor on = (length ids, on.device)
+
+pub out_of_memory_later : (limit : ℕ) (start : Bound) (past : List Event) (old now next : Device) (ids : List ObjectId) (cursor : Cursor) (id : ObjectId)
+    → IsOn limit start past old now ids cursor → IsAnswered cursor Max now (Some id) next → (calls : ℕ) × (next ≡ answered calls old)
+out_of_memory_later limit start past old now next ids cursor id on is = (suc (length ids), is.0 ∙ ap listed on.device)
+
+pub ruleset turns = (begins, ascends, goes_on, fewer, stops, stops_device, ends, ends_device, failed, out_of_memory, out_of_memory_later)
+
+-- ---- what a shard's listing leaves
+
+answered_counts : (calls : ℕ) (device : Device) → (answered calls device).faults ≡ device.faults
+answered_counts zero device = refl
+answered_counts (suc calls) device = answered_counts calls device
+
+-- the device answered
+pub tied_answered : (calls : ℕ) (old new : Device) (items : List Item) (count : ℕ) (past : List Event) → IsTied old items count past → new ≡ answered calls old → IsTied new items count past
+tied_answered calls old new items count past tied e = record {
+  all_items = tied.all_items;
+  numbered = tied.numbered;
+  count_is = tied.count_is;
+  within = tied.within;
+  holds = ap (λ (d : Device). d.stored) e ∙ answered_stores calls old ∙ tied.holds;
+  counted = omega (arith, tied.counted, ap (λ (d : Device). d.faults) e, answered_counts calls old);
+}
+
+-- the device failed
+pub tied_failed : (old new : Device) (items : List Item) (count faults : ℕ) (past : List Event) → IsTied old items count past → IsFailedAfter old new → faults ≡ new.faults
+    → IsTied new items count (ListFailed faults ∷ past)
+tied_failed old new items count faults past tied failed e = record {
+  all_items = tied.all_items;
+  numbered = tied.numbered;
+  count_is = tied.count_is;
+  within = tied.within;
+  holds = ap (λ (d : Device). d.stored) failed.failed.0 ∙ answered_stores failed.calls old ∙ tied.holds;
+  counted = omega (arith, e);
+}
+
+rose_from : (last old new : ℕ) → last ≤ old → Rose old new → Rose last new
+rose_from last old new below rose = record {
+  kept = omega (arith, below, rose.kept);
+  more = λ e. rose.more (omega (arith, below, rose.kept, e));
+}
+
+pub due_failed : (old new : Device) (items : List Item) (count faults : ℕ) (past : List Event) → IsTied old items count past → IsFailedAfter old new → faults ≡ new.faults
+    → Rose (last_count past) faults
+due_failed old new items count faults past tied failed e =
+    subst (λ n. Rose (last_count past) n) (sym e)
+    (rose_from (last_count past) (answered failed.calls old).faults new.faults (omega (arith, tied.counted, answered_counts failed.calls old)) failed.failed.1)
+
+failing_of : (old new : Device) (faults calls : ℕ) → new ≡ not_listed faults (answered calls old) → new.failing ≡ old.failing
+failing_of old new faults calls e = ap (λ (d : Device). d.failing) e ∙ answered_fails calls old
+
+pub failed_failing : (old new : Device) → IsFailedAfter old new → new.failing ≡ old.failing
+failed_failing old new failed = failing_of old new new.faults failed.calls failed.failed.0
+
+pub answered_failing : (calls : ℕ) (old new : Device) → new ≡ answered calls old → new.failing ≡ old.failing
+answered_failing calls old new e = ap (λ (d : Device). d.failing) e ∙ answered_fails calls old
+
+told_by : (failing other : Option (List FailingCall)) (number : ℕ) → failing ≡ other → IfSome failing (λ calls. is_named kinds.List number calls ≡ true)
+    → IfSome other (λ calls. is_named kinds.List number calls ≡ true)
+told_by failing other number e h = subst (λ o. IfSome o (λ calls. is_named kinds.List number calls ≡ true)) e h
+
+not_named : (failing : Option (List FailingCall)) (number : ℕ) → IfSome failing (λ calls. is_named kinds.List number calls ≡ true) → (P : Type 0)
+    → IfSome failing (λ calls. ((n : ℕ) → is_named kinds.List n calls ≡ false) → P → ⊥)
+not_named None number h P = tt
+not_named (Some calls) number h P = λ none p. true_false (sym h ∙ none number)
+
+-- where no listing is to fail, none does
+pub told_failed : (old new : Device) (P : Type 0) → IsFailedAfter old new → IfSome old.failing (λ calls. ((n : ℕ) → is_named kinds.List n calls ≡ false) → P → ⊥)
+told_failed old new P failed =
+    not_named old.failing (one_more (answered failed.calls old).lists.made)
+    (told_by (answered failed.calls old).failing old.failing (one_more (answered failed.calls old).lists.made) (answered_fails failed.calls old) failed.failed.2) P
+
+-- ---- what the device's answer says, by its error
+
+pub failed_is : (limit : ℕ) (old new : Device) (e : MediumError) → e ≡ errors.Failed → IsListedOn limit old (Err e) new → IsFailedAfter old new
+failed_is limit old new e is h = subst (λ x. IsListedOn limit old (Err x) new) is h
+
+pub memory_is : (limit : ℕ) (old new : Device) (e : MediumError) → e ≡ errors.Memory → IsListedOn limit old (Err e) new → (calls : ℕ) × (new ≡ answered calls old)
+memory_is limit old new e is h = subst (λ x. IsListedOn limit old (Err x) new) is h
+
+pub memory_failing : (old new : Device) → (calls : ℕ) × (new ≡ answered calls old) → new.failing ≡ old.failing
+memory_failing old new h = answered_failing h.0 old new h.1
+
+-- a failure that is due is legal
+pub legal_failed : (past now before : List Event) (count : ℕ) → Rose (last_count before) count → before ≡ past → now ≡ ListFailed count ∷ past → IsLegal past → IsLegal now
+legal_failed past now before count due same e legal = subst IsLegal (sym e) (subst (λ l. Rose (last_count l) count) same due, legal)
