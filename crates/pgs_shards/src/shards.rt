@@ -48,6 +48,13 @@ fn place(shards: &[Shard<RamMedium>], osd: u32) -> Option<usize>
     shards.iter().position(|shard| shard.osd() == osd)
 }
 
+// How many events a shard has.
+fn count(shard: &Shard<RamMedium>) -> u64
+    ensures { result ≡ length shard.now.past }
+{
+    shard.events().len() as u64
+}
+
 impl Shards {
     /// A shard for each OSD, of which nothing is known yet.
     #[tactic(auto, using(crate::proofs::Places::quiet_more, crate::proofs::Places::begun_more))]
@@ -76,6 +83,17 @@ impl Shards {
     {
         match place(self.items.as_slice(), osd) {
             Some(at) => self.items[at].applied(),
+            None => 0,
+        }
+    }
+
+    /// How many events an OSD's history has: none for one that is no member.
+    #[tactic(auto, using(crate::proofs::Places::past_at, crate::proofs::Places::past_nowhere))]
+    pub fn events(&self, osd: u32) -> u64
+        ensures { result ≡ length (past_in self.now osd) }
+    {
+        match place(self.items.as_slice(), osd) {
+            Some(at) => count(&self.items[at]),
             None => 0,
         }
     }

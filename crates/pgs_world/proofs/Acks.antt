@@ -101,7 +101,9 @@ still a b (dones.Pull group osd from to) legal grows h = tt
 still a b (dones.Apply group osd answer) legal grows h = tt
 still a b (dones.Tell group osd count) legal grows h = tt
 still a b (dones.Damage group osd object snap damage) legal grows h = tt
-still a b (dones.Close group chunk findings snaps) legal grows h = tt
+still a b (dones.Begin group kind answer) legal grows h = tt
+still a b (dones.Open group answer) legal grows h = tt
+still a b (dones.Close group answer) legal grows h = tt
 
 -- all acknowledgements hold on
 pub acks_grow : (a b : WorldState) → AreInStep b → Grows a b → AllByRecursion (StillHolds a) a.done → AllByRecursion (StillHolds b) a.done

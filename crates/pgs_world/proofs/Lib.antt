@@ -2,8 +2,10 @@
 pub mod Items
 pub mod InStep
 pub mod Acks
+pub mod Scrubs
+pub mod Walks
 pub mod Sound
-pub mod Findings
 pub mod Pulls
 pub mod Settles
+pub mod Idle
 pub mod Runs

@@ -1,30 +1,18 @@
--- Steps that are repeated, and chunks that are counted.
+-- Steps that are repeated.
 use Rattle.std.proofs.Common.{◌≡◌, ℕ, zero, suc, ◌+◌, ◌<◌, ◌≤◌, ◌==◌, ◌||◌, get_or, drop, true, false, List, [], ◌∷◌, length, refl, sym, ap, ◌∙◌, subst, arith, if◌then◌else◌}
 use Rattle.std.specs.List.{list_any}
 use Rattle.std.proofs.lemmas.Bool.Decides.{nat_tests}
 use Rattle.std.proofs.lemmas.List.{drop_more, drop_all}
-use Rattle.std.proofs.lemmas.List.Sums.{sum_by-cons, count_by-le-length}
-use Rattle.pgs_lines.specs.declared.done.Done.{Done}
-use Rattle.pgs_lines.specs.declared.done.Done.TheVariants as dones
 use Rattle.pgs_world.specs.State.{WorldState}
 use Rattle.pgs_world.specs.Basics.{after_applying, after_pulling}
 use Rattle.pgs_world.specs.Counts.{is_member}
 use Rattle.pgs_world.proofs.Sound.{sound_member}
-use Rattle.pgs_world.specs.Steps.{waiting, applied_times, member_settled, settled, is_close, closes}
+use Rattle.pgs_world.specs.Steps.{waiting, applied_times, member_settled, settled}
 use Rattle.pgs_world.specs.Sound.{IsSound}
 
 -- applied once more, where so many times are left
 pub times_next : (n left : ℕ) (w : WorldState) (group osd : ℕ) → n ≡ suc left → applied_times n w group osd ≡ applied_times left (after_applying w group osd) group osd
 times_next n left w group osd e = ap (λ m. applied_times m w group osd) e
-
-pub closes_most : (done : List Done) → closes done ≤ length done
-closes_most done = count_by-le-length is_close done
-
--- one chunk more was closed
-pub closes_next : (group chunk findings snaps : ℕ) (done : List Done) → closes (dones.Close group chunk findings snaps ∷ done) ≡ closes done + 1
-closes_next group chunk findings snaps done =
-    let more = sum_by-cons (λ d. if is_close d then 1 else 0) (dones.Close group chunk findings snaps) done in
-    more ∙ omega arith
 
 -- on the way through the members, of which those from a place on are left
 pub record IsSettling (start : WorldState) (group : ℕ) (members : List ℕ) (place : ℕ) (now : WorldState) : Type 0 where

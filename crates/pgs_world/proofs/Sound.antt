@@ -1,7 +1,8 @@
 -- Every step keeps what is sound.
-use Rattle.std.proofs.Common.{◌≡◌, ℕ, zero, suc, List, [], ◌∷◌, refl, sym, subst}
+use Rattle.std.proofs.Common.{◌≡◌, ℕ, zero, suc, true, List, [], ◌∷◌, refl, sym, ap, ◌∙◌, subst}
+use Rattle.std.specs.Prelude.{is_some}
 use Rattle.std.specs.List.{AllByRecursion}
-use Rattle.pgs_history.specs.Answers.{collect_answer}
+use Rattle.pgs_history.specs.Answers.{collect_answer, primary}
 use Rattle.pgs_history.proofs.Ids.{numbered, distinct}
 use Rattle.pgs_history.specs.declared.made.Made.{Made}
 use Rattle.pgs_lines.specs.declared.basic.Basic.{Basic}
@@ -11,12 +12,13 @@ use Rattle.pgs_lines.specs.declared.step.Step.TheVariants as steps
 use Rattle.pgs_lines.specs.declared.done.Done.{Done}
 use Rattle.pgs_world.specs.State.{WorldState, opening}
 use Rattle.pgs_world.specs.Basics.{id_of, family_of, snap_of, damage_of, after_basic, after_write, after_collecting, after_pulling, after_telling, after_applying, after_damaging}
-use Rattle.pgs_world.specs.Steps.{waiting, applied_times, applied_all, member_settled, settled, swept, after_step, after_steps}
+use Rattle.pgs_world.specs.Steps.{waiting, applied_times, applied_all, member_settled, settled, after_step, after_steps}
 use Rattle.pgs_world.specs.Counts.{AreInStep}
 use Rattle.pgs_world.specs.Acknowledged.{StillHolds}
 use Rattle.pgs_world.specs.Sound.{IsSound}
-use Rattle.pgs_world.proofs.InStep.{in_write, in_collect, in_pull, in_tell, in_apply, in_damage, in_done, in_opening}
-use Rattle.pgs_world.proofs.Acks.{Grows, acks_grow, grows_write, grows_collect, grows_pull, grows_tell, grows_apply, grows_damage, grows_done, collect_holds}
+use Rattle.pgs_world.proofs.Walks.{sound_swept}
+use Rattle.pgs_world.proofs.InStep.{in_write, in_collect, in_pull, in_tell, in_apply, in_damage, in_opening}
+use Rattle.pgs_world.proofs.Acks.{Grows, acks_grow, grows_write, grows_collect, grows_pull, grows_tell, grows_apply, grows_damage, collect_holds}
 
 -- one thing more was done
 kept_sound : (a b : WorldState) (done : Done) → IsSound a → AreInStep b → Grows a b → b.done ≡ done ∷ a.done → StillHolds b done → IsSound b
@@ -24,6 +26,7 @@ kept_sound a b done sound in_step grows is holds = record {
   in_step = in_step;
   orderly = record { items = numbered b.made b.past in_step.legal; requests = distinct b.made b.past in_step.legal };
   acknowledged = subst (AllByRecursion (StillHolds b)) (sym is) (holds, acks_grow a b in_step grows sound.acknowledged);
+  some = ap (λ made. is_some (primary made)) grows.same ∙ sound.some;
 }
 
 sound_applying : (w : WorldState) (group osd : ℕ) → IsSound w → IsSound (after_applying w group osd)
@@ -60,24 +63,24 @@ sound_member w group osd s =
     sound_telling (applied_all pulled group osd) group osd
     (sound_applying (applied_times (waiting pulled osd) pulled group osd) group osd (sound_times (waiting pulled osd) pulled group osd (sound_pulling w group osd s)))
 
-sound_settled : (w : WorldState) (group : ℕ) (osds : List ℕ) → IsSound w → IsSound (settled w group osds)
+pub sound_settled : (w : WorldState) (group : ℕ) (osds : List ℕ) → IsSound w → IsSound (settled w group osds)
 sound_settled w group [] s = s
 sound_settled w group (osd ∷ osds) s = sound_settled (member_settled w group osd) group osds (sound_member w group osd s)
+
+pub settled_sound : (w v : WorldState) (group : ℕ) → IsSound w → v ≡ settled w group w.made.members → IsSound v
+settled_sound w v group s e = subst IsSound (sym e) (sound_settled w group w.made.members s)
 
 pub sound_step : (w : WorldState) (step : Step) → IsSound w → IsSound (after_step w step)
 sound_step w (steps.Basic basic) s = sound_basic w basic s
 sound_step w (steps.Settle group) s = sound_settled w group w.made.members s
-sound_step w (steps.Sweep group kind) s =
-    let before = settled w group w.made.members in
-    let sound = sound_settled w group w.made.members s in
-    kept_sound before (swept before group) _ sound (in_done before (swept before group).done sound.in_step) (grows_done before (swept before group).done) refl tt
+sound_step w (steps.Sweep group kind) s = sound_swept (settled w group w.made.members) group kind (sound_settled w group w.made.members s)
 
 pub sound_steps : (w : WorldState) (script : List Step) → IsSound w → IsSound (after_steps w script)
 sound_steps w [] s = s
 sound_steps w (step ∷ script) s = sound_steps (after_step w step) script (sound_step w step s)
 
-pub sound_opening : (made : Made) → IsSound (opening made)
-sound_opening made = record { in_step = in_opening made; orderly = record { items = tt; requests = tt }; acknowledged = tt }
+pub sound_opening : (made : Made) → is_some (primary made) ≡ true → IsSound (opening made)
+sound_opening made some = record { in_step = in_opening made; orderly = record { items = tt; requests = tt }; acknowledged = tt; some = some }
 
-pub opening_sound : (world : WorldState) (made : Made) → world ≡ opening made → IsSound world
-opening_sound world made is = subst IsSound (sym is) (sound_opening made)
+pub opening_sound : (world : WorldState) (made : Made) → world ≡ opening made → is_some (primary made) ≡ true → IsSound world
+opening_sound world made is some = subst IsSound (sym is) (sound_opening made some)

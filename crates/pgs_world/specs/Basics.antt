@@ -10,8 +10,7 @@ use Rattle.pgs_lines.specs.declared.basic.Basic.TheVariants as basics
 use Rattle.pgs_lines.specs.declared.apply_answer.ApplyAnswer.{ApplyAnswer}
 use Rattle.pgs_lines.specs.declared.apply_answer.ApplyAnswer.TheVariants as applies
 use Rattle.pgs_lines.specs.declared.done.Done.TheVariants as dones
-use Rattle.pgs_name.specs.Bounds.{kept_key}
-use Rattle.pgs_name.specs.Families.{Family}
+use Rattle.pgs_name.specs.Families.{Family, family_named}
 use Rattle.pgs_name.specs.declared.object_id.TheConstants.{HEAD}
 use Rattle.pgs_copy.specs.declared.damage.Damage.{Damage}
 use Rattle.pgs_copy.specs.declared.damage.Damage.TheVariants.{Flip}
@@ -33,9 +32,9 @@ use Rattle.pgs_world.specs.State.{WorldState}
 
 -- ---- what the words of a line name
 
--- a key that is the name is kept as the empty key
+-- the family of an object: an empty key stands for the name
 abbrev pub family_of : Object → Family
-family_of object = record { space = object.space; key = kept_key object.key object.name; name = object.name }
+family_of object = family_named object.space object.key object.name
 
 abbrev pub snap_of : Snap → ℕ
 snap_of Head = HEAD

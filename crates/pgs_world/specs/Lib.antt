@@ -1,8 +1,9 @@
 -- What the steps of a script do, and what then holds.
 pub mod State
 pub mod Basics
-pub mod Findings
+pub mod Scrubs
 pub mod Steps
 pub mod Counts
 pub mod Acknowledged
 pub mod Sound
+pub mod Scrubbed

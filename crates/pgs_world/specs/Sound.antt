@@ -1,4 +1,6 @@
 -- What every run of steps keeps.
+use Rattle.std.specs.Prelude.{◌≡◌, true, is_some}
+use Rattle.pgs_history.specs.Answers.{primary}
 use Rattle.pgs_world.specs.State.{WorldState}
 use Rattle.pgs_world.specs.Counts.{AreInStep, IsOrderly}
 use Rattle.pgs_world.specs.Acknowledged.{AreAcknowledged}
@@ -7,3 +9,5 @@ pub record IsSound (w : WorldState) : Type 0 where
   pub in_step : AreInStep w
   pub orderly : IsOrderly w
   pub acknowledged : AreAcknowledged w
+  -- there is a primary
+  pub some : is_some (primary w.made) ≡ true

@@ -1,14 +1,12 @@
 -- What the steps of a script do, one after another.
-use Rattle.std.specs.Prelude.{ℕ, zero, suc, ◌+◌, ◌-◌, Bool, true, false, List, [], ◌∷◌, length, count_by}
+use Rattle.std.specs.Prelude.{ℕ, zero, suc, ◌-◌, List, [], ◌∷◌, length}
 use Rattle.pgs_lines.specs.declared.step.Step.{Step}
 use Rattle.pgs_lines.specs.declared.step.Step.TheVariants as steps
-use Rattle.pgs_lines.specs.declared.done.Done.{Done}
-use Rattle.pgs_lines.specs.declared.done.Done.TheVariants as dones
 use Rattle.pgs_shard.specs.Feeds.{fed}
 use Rattle.pgs_shards.specs.Members.{past_in}
 use Rattle.pgs_world.specs.State.{WorldState}
 use Rattle.pgs_world.specs.Basics.{after_basic, after_pulling, after_applying, after_telling, applied_by}
-use Rattle.pgs_world.specs.Findings.{findings}
+use Rattle.pgs_world.specs.Scrubs.{swept}
 
 -- ---- settling: each member pulls, applies until nothing waits, and tells
 
@@ -32,25 +30,12 @@ abbrev pub settled : WorldState → ℕ → List ℕ → WorldState
 settled w group [] = w
 settled w group (osd ∷ osds) = settled (member_settled w group osd) group osds
 
--- ---- sweeping: for now the group settles first, and the scrub is one chunk, which is closed at once
-
-abbrev pub is_close : Done → Bool
-is_close (dones.Close group chunk found snaps) = true
-is_close done = false
-
--- how many chunks were closed
-abbrev pub closes : List Done → ℕ
-closes done = count_by is_close done
-
-abbrev pub swept : WorldState → ℕ → WorldState
-swept w group = record w { done = dones.Close group (closes w.done + 1) (findings w) 0 ∷ w.done }
-
--- ---- steps
+-- ---- steps: a sweep settles the group first, since it compares what members store at once
 
 abbrev pub after_step : WorldState → Step → WorldState
 after_step w (steps.Basic basic) = after_basic w basic
 after_step w (steps.Settle group) = settled w group w.made.members
-after_step w (steps.Sweep group kind) = swept (settled w group w.made.members) group
+after_step w (steps.Sweep group kind) = swept (settled w group w.made.members) group kind
 
 abbrev pub after_steps : WorldState → List Step → WorldState
 after_steps w [] = w

@@ -1,8 +1,8 @@
 //! A pool's group with the shards of its members, changed by the steps of a script.
 #![tactic(auto)]
 
-mod finding;
 mod naming;
+mod saying;
 mod world;
 
 pub use world::World;

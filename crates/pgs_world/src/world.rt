@@ -1,11 +1,13 @@
-ghost use Rattle.std.specs.Prelude.{◌≡◌, ℕ, true, reverse, IfOk, OnOk};
+ghost use Rattle.std.specs.Prelude.{◌≡◌, ℕ, true, reverse, is_some, None, IfOk, OnOk};
+ghost use Rattle.pgs_history.specs.Scrubs.{running};
+ghost use Rattle.pgs_history.specs.Answers.{primary};
 ghost use Rattle.pgs_world.specs.State.{opening};
 ghost use Rattle.pgs_world.specs.Basics as basics;
 ghost use Rattle.pgs_world.specs.Steps as steps;
 ghost use Rattle.pgs_world.specs.Counts.{is_member, AreInStep, IsNamed, IsNamedStep, AreNamed};
 ghost use Rattle.pgs_world.specs.Sound.{IsSound};
+ghost use Rattle.pgs_world.specs.Scrubbed.{AreScrubbed};
 
-use crate::finding::count;
 use crate::naming::{damage_of, family_of, snap_of, write_of};
 use pgs_group::Group;
 use pgs_history::Made;
@@ -17,6 +19,8 @@ use sqlite_items::Items;
 use std::alloc::{AllocError, Global};
 use std::marker::Model;
 
+mod scrubs;
+
 /// A group with the shards of its members, and what was done to them.
 #[derive(Drop)]
 pub struct World {
@@ -24,13 +28,11 @@ pub struct World {
     group: Group,
     shards: Shards,
     done: Vec<Done>,
-    closes: u64,
 }
 
 impl Model for World {
     ghost use Rattle.std.specs.Prelude.{◌≡◌, reverse};
     ghost use Rattle.pgs_world.specs.State.{WorldState};
-    ghost use Rattle.pgs_world.specs.Steps.{closes as closes_of};
 
     ghost Value = { WorldState };
 
@@ -40,13 +42,12 @@ impl Model for World {
       members = w.shards;
       done = reverse w.done.items;
     } };
-
-    ghost invariant = { λ w. w.closes ≡ closes_of (reverse w.done.items) };
 }
 
 impl World {
     /// Before the first step.
     pub fn new(alloc: Global, made: Made) -> Result<World, AllocError>
+        requires some { is_some (primary made) ≡ true }
         ensures world { IfOk result (λ w. w ≡ opening made) }
         ensures sound { IfOk result (λ w. IsSound w) }
     {
@@ -63,7 +64,6 @@ impl World {
             group: Group::new(alloc, made),
             shards,
             done: Vec::new(alloc),
-            closes: 0,
         })
     }
 
@@ -85,7 +85,7 @@ impl World {
         ensures { OnOk result (self.new ≡ basics.after_write self.old client serial object.now op.now) }
     {
         self.done.reserve(1)?;
-        let write = write_of(self.alloc, client, serial, object, op)?;
+        let write = write_of(client, serial, object, op)?;
         let object = object.clone()?;
         let op = op.clone()?;
         let answer = self.group.submit(write)?;
@@ -173,7 +173,7 @@ impl World {
         ensures { OnOk result (self.new ≡ basics.after_damaging self.old group osd object.now snap damage) }
     {
         self.done.reserve(1)?;
-        let family = family_of(self.alloc, object)?;
+        let family = family_of(object)?;
         let object = object.clone()?;
         self.shards
             .damage(osd, family, snap_of(snap), damage_of(damage))?;
@@ -266,43 +266,29 @@ impl World {
         Ok(())
     }
 
-    // The one chunk of a scrub is closed, behind the settling.
-    #[tactic(auto, using(crate::proofs::Settles::closes_next, crate::proofs::Settles::closes_most))]
-    fn sweep(&mut self, group: u32) -> Result<(), AllocError>
-        ensures { OnOk result (self.new ≡ steps.swept self.old group) }
-    {
-        self.done.reserve(1)?;
-        let findings = count(self.alloc, &self.group, &self.shards)?;
-        let chunk = self.closes + 1;
-        self.closes = chunk;
-        self.done.push_reserved(Done::Close {
-            group,
-            chunk,
-            findings,
-            snaps: 0,
-        });
-        Ok(())
-    }
-
     /// Does a step of a script. Where memory runs out a part of it may be done.
-    #[tactic(auto, using(crate::proofs::Sound::sound_step))]
+    #[tactic(auto, using(crate::proofs::Sound::sound_step, crate::proofs::Idle::idle_step))]
     pub fn step(&mut self, step: &Step) -> Result<(), AllocError>
         requires sound { IsSound self.old }
         requires named { IsNamedStep self.old.made step.now }
+        requires idle { running self.old.past ≡ None }
         ensures after { OnOk result (self.new ≡ steps.after_step self.old step.now) }
         ensures sound { OnOk result (IsSound self.new) }
+        ensures idle { OnOk result (running self.new.past ≡ None) }
     {
         self.do_step(step)?;
         Ok(())
     }
 
     /// Does the steps of a script, in order. Where memory runs out some of them are done.
-    #[tactic(auto, using(crate::proofs::Runs::running))]
+    #[tactic(auto, using(crate::proofs::Runs::runs))]
     pub fn run(&mut self, script: &[Step]) -> Result<(), AllocError>
         requires sound { IsSound self.old }
         requires named { AreNamed self.old.made script.now }
+        requires idle { running self.old.past ≡ None }
         ensures after { OnOk result (self.new ≡ steps.after_steps self.old script.now) }
         ensures sound { OnOk result (IsSound self.new) }
+        ensures scrubbed { OnOk result (AreScrubbed self.new) }
     {
         for step in script {
             self.step(step)?;
@@ -310,6 +296,7 @@ impl World {
         Ok(())
     }
 
+    #[tactic(auto, using(crate::proofs::Sound::settled_sound))]
     fn do_step(&mut self, step: &Step) -> Result<(), AllocError>
         requires sound { IsSound self.old }
         requires named { IsNamedStep self.old.made step.now }
@@ -318,9 +305,9 @@ impl World {
         match step {
             Step::Basic { basic } => self.do_basic(basic),
             Step::Settle { group } => self.settle(*group),
-            Step::Sweep { group, .. } => {
+            Step::Sweep { group, kind } => {
                 self.settle(*group)?;
-                self.sweep(*group)
+                self.sweep(*group, *kind)
             }
         }
     }

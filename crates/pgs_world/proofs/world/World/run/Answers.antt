@@ -3,4 +3,4 @@ use Rattle.pgs_world.proofs.world.World.run.Goals as goal
 
 pub loop-step-preserved : goal.loop-step-preserved
 loop-step-preserved c =
-    run_next _ _ _ _ _ c.step-item.result c.loop-step.invariant c.loop-step-test.true c.step-item.is c.in_ok-step.ensures.after c.in_ok-step.ensures.sound
+    run_next _ _ _ _ _ c.step-item.result c.loop-step.invariant c.loop-step-test.true c.step-item.is c.in_ok-step.ensures.after c.in_ok-step.ensures.sound c.in_ok-step.ensures.idle
