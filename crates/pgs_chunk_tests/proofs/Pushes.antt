@@ -5,11 +5,11 @@ use Rattle.std.specs.List.{AllByRecursion}
 use Rattle.std.specs.List.Sorted.{IsStrictlySortedBy}
 use Rattle.std.specs.declared.cmp.Ordering.TheVariants.{Less, Equal}
 use Rattle.std.specs.Ordering.{nat_cmp, ordering_then}
-use Rattle.pgs_name.specs.Families.{Family}
+use Rattle.pgs_name.specs.Families.{family_named}
 use Rattle.pgs_name.specs.declared.object_id.ObjectId.{ObjectId}
 use Rattle.pgs_name.specs.Order.{family_cmp, place_of, text_cmp}
-use Rattle.pgs_position.specs.Positions.{family_of_id, position_cmp}
-use Rattle.pgs_position.proofs.Families.{family_total}
+use Rattle.pgs_name.specs.Positions.{position_cmp}
+use Rattle.pgs_name.specs.Total.{family_total}
 use Rattle.pgs_chunk.specs.Positions.{Ascends}
 use Rattle.pgs_chunk.proofs.Lists.{all_weaker, all_both}
 use Rattle.pgs_chunk_tests.specs.Clones.{IsNamed, IsClone, AreClones}
@@ -19,19 +19,11 @@ unfolding IsStrictlySortedBy
 one_more [] id h a = (tt, tt)
 one_more (x ∷ ids) id h a = (all_both (λ b. position_cmp x b ≡ Less) ids (id ∷ []) h.0 (a.0, tt), one_more ids id h.1 a.1)
 
-family_named : List ℕ → List ℕ → Family
-family_named key name = record { space = []; key = key; name = name }
-
-of_family : (name : List ℕ) (snap : ℕ) (id : ObjectId) (key : List ℕ) → id.space ≡ [] → id.key ≡ key → id.name ≡ name → family_of_id id ≡ family_named key name
-unfolding family_named
-of_family name snap id key s k n = λ i. record { space = s i; key = k i; name = n i }
-
 -- a clone with a higher snap comes later
 clone_before : (snap most : ℕ) (a id : ObjectId) → most < snap → IsNamed (97 ∷ []) snap id → IsClone most a → position_cmp a id ≡ Less
 clone_before snap most a id l n c =
-    let one : family_of_id a ≡ family_of_id id =
-    of_family (97 ∷ []) snap a (107 ∷ []) c.which.space c.which.key c.which.named ∙ sym (of_family (97 ∷ []) snap id (107 ∷ []) n.space n.key n.named) in
-    let same : family_cmp (family_of_id a) (family_of_id id) ≡ Equal = ap (family_cmp (family_of_id a)) (sym one) ∙ tied_itself family_total (family_of_id a) in
+    let one : a.family ≡ id.family = c.which.family ∙ sym n.family in
+    let same : family_cmp a.family id.family ≡ Equal = ap (family_cmp a.family) (sym one) ∙ tied_itself family_total a.family in
     let upto : a.snap ≤ most = c.upto in
     let at : id.snap ≡ snap = n.at in
     let less : a.snap < id.snap = omega arith in
@@ -39,14 +31,11 @@ clone_before snap most a id l n c =
 
 -- the object b comes behind the object a, since they have one key
 next_before : (snap most : ℕ) (a id : ObjectId) → IsNamed (98 ∷ []) snap id → IsClone most a → position_cmp a id ≡ Less
-unfolding family_named
 next_before snap most a id n c =
-    let first : family_of_id a ≡ family_named (107 ∷ []) (97 ∷ []) = of_family (97 ∷ []) snap a (107 ∷ []) c.which.space c.which.key c.which.named in
-    let second : family_of_id id ≡ family_named (107 ∷ []) (98 ∷ []) = of_family (98 ∷ []) snap id (107 ∷ []) n.space n.key n.named in
-    let place : ℕ = place_of (family_named (107 ∷ []) (97 ∷ [])) in
-    let less : family_cmp (family_named (107 ∷ []) (97 ∷ [])) (family_named (107 ∷ []) (98 ∷ [])) ≡ Less =
+    let place : ℕ = place_of (family_named [] (107 ∷ []) (97 ∷ [])) in
+    let less : family_cmp (family_named [] (107 ∷ []) (97 ∷ [])) (family_named [] (107 ∷ []) (98 ∷ [])) ≡ Less =
     ap (λ o. ordering_then (ordering_then (ordering_then o (text_cmp [] [])) (text_cmp (107 ∷ []) (107 ∷ []))) (text_cmp (97 ∷ []) (98 ∷ []))) (tied_itself nat_cmp_total place) in
-    ap (λ o. ordering_then o (nat_cmp a.snap id.snap)) ((λ i. family_cmp (first i) (second i)) ∙ less)
+    ap (λ o. ordering_then o (nat_cmp a.snap id.snap)) ((λ i. family_cmp (c.which.family i) (n.family i)) ∙ less)
 
 pub clone_pushed : (snap : ℕ) (ids : List ObjectId) (id : ObjectId) → Ascends ids → AreClones snap ids → IsNamed (97 ∷ []) (snap + 1) id → Ascends (ids ++ id ∷ [])
 clone_pushed snap ids id h c n =
@@ -58,7 +47,7 @@ clones_pushed snap ids id c n =
     all_both (IsClone (snap + 1)) ids (id ∷ [])
     (all_weaker (IsClone snap) (IsClone (snap + 1)) (λ a k. record { which = k.which; upto = let u : a.snap ≤ snap = k.upto in omega arith }) ids c) (
       record {
-        which = record { space = n.space; key = n.key; named = n.named; at = refl };
+        which = record { family = n.family; at = refl };
         upto = let u : id.snap ≡ snap + 1 = n.at in omega arith;
       },
       tt,

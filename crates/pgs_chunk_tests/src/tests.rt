@@ -1,5 +1,5 @@
 use crate::making::clones_and_next;
-use pgs_chunk::{Limits, Settings, limit_after, select};
+use pgs_chunk::{Limits, Settings, is_full, limit_after, select};
 use pgs_range::{Bound, FamilyRange};
 use std::alloc::Global;
 use std::test::Fail;
@@ -33,7 +33,7 @@ fn limits_after_preemptions(rt: HostRuntime) -> Result<(), Fail> {
 // Whether a bound is at the object b.
 fn is_at_next(bound: &Bound) -> bool {
     match bound {
-        Bound::At { family } => family.name.as_slice() == b"b".as_slice(),
+        Bound::At { family } => family.name() == b"b".as_slice(),
         _ => false,
     }
 }
@@ -66,6 +66,18 @@ fn whole_families(rt: HostRuntime) -> Result<(), Fail> {
         let range = selected(alloc, clones, &Bound::Min, limit)?;
         assert_eq!(rt; is_at_next(&range.to), at_next);
         assert_eq!(rt; is_greatest(&range.to), !at_next);
+    }
+    Ok(())
+}
+
+// A listing may stop at the position behind the limit, where that is of another family.
+#[test]
+fn full_listings(rt: HostRuntime) -> Result<(), Fail> {
+    let alloc = rt.alloc();
+    let rows = [(3, 3, true), (3, 4, false), (0, 0, false)];
+    for (clones, limit, full) in rows {
+        let listed = clones_and_next(alloc, clones)?;
+        assert_eq!(rt; is_full(listed.as_slice(), limit), full);
     }
     Ok(())
 }

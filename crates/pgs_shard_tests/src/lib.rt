@@ -2,4 +2,8 @@
 #![tactic(auto)]
 
 #[cfg(test)]
+mod listing;
+#[cfg(test)]
+mod many;
+#[cfg(test)]
 mod tests;

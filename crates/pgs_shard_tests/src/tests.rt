@@ -13,11 +13,8 @@ use std::alloc::{AllocError, Global};
 use std::test::Fail;
 
 fn family(alloc: Global) -> Result<Family, AllocError> {
-    Ok(Family {
-        space: Bytes::new(alloc),
-        key: Bytes::new(alloc),
-        name: Bytes::from_slice(alloc, b"rbd_data.1")?,
-    })
+    let name = Bytes::from_slice(alloc, b"rbd_data.1")?;
+    Family::new(Bytes::new(alloc), Bytes::new(alloc), name)
 }
 
 fn item(alloc: Global, number: u64, text: &[u8]) -> Result<Item, AllocError>
