@@ -1,6 +1,5 @@
 -- The maps that were taken, and their positions.
-use Rattle.std.proofs.Common.{ℕ, ◌≡◌, ◌+◌, ◌<◌, ◌≤◌, ◌==◌, ◌&&◌, ◌||◌, Bool, true, false, not, cond, List, [], ◌∷◌, ◌++◌, length, take, drop, get_or, reverse, Option, Some, None, refl, sym, ap, ◌∙◌, subst}
-use Rattle.std.specs.Prelude.{IfSome}
+use Rattle.std.proofs.Common.{ℕ, ◌≡◌, ◌+◌, ◌<◌, ◌≤◌, ◌==◌, ◌&&◌, ◌||◌, Bool, true, false, cond, List, [], ◌∷◌, ◌++◌, length, take, drop, get_or, reverse, Option, Some, None, refl, sym, ap, ◌∙◌, subst}
 use Rattle.std.specs.List.{list_any}
 use Rattle.std.proofs.lemmas.List.{take_more, drop_more, drop_all, reverse-append}
 use Rattle.pgs_bytes.proofs.Facts.{none_some, some_same}
@@ -9,7 +8,7 @@ use Rattle.pgs_map.specs.Entries.{AreAscending}
 use Rattle.pgs_map.specs.declared.scrub_map.ScrubMap.{ScrubMap}
 use Rattle.pgs_history.specs.Scrubs.{taken, taken_after}
 use Rattle.pgs_history.specs.Answers.{with_map, maps_of}
-use Rattle.pgs_history.specs.Findings.{with_entries, with_maps, positions_of}
+use Rattle.pgs_history.specs.Findings.{with_maps}
 use Rattle.pgs_history.specs.Chunks.{AreOrdered}
 use Rattle.pgs_history.specs.declared.take_answer.TakeAnswer.TheVariants.{Stale, Taken}
 use Rattle.pgs_history.specs.declared.event.Event.{Event}

@@ -1,5 +1,5 @@
 -- Where the scrubs of a group are, by its events.
-use Rattle.std.specs.Prelude.{List, Option, Some, None, if◌then◌else◌}
+use Rattle.std.specs.Prelude.{List, None, if◌then◌else◌}
 use Rattle.pgs_history.specs.Scrubs.{begun, running, opened, open_chunk, start, end_of}
 use Rattle.pgs_history.specs.Answers.{is_last}
 use Rattle.pgs_history.specs.declared.event.Event.{Event}

@@ -1,5 +1,5 @@
 -- Steps of every kind: the answer due, and the events after it.
-use Rattle.std.specs.Prelude.{ℕ, ◌≡◌, List, reverse, Option, Some, None, option_map}
+use Rattle.std.specs.Prelude.{ℕ, ◌≡◌, List, reverse, Some, None, option_map}
 use Rattle.pgs_op_log.specs.Logs.{newer}
 use Rattle.pgs_history.specs.Log.{log}
 use Rattle.pgs_history.specs.Members.{pulled}

@@ -87,13 +87,7 @@ fn taken_map(events: &[Event], chunk: u64, osd: u32) -> Option<&ScrubMap>
     taken(events, chunk, osd)
 }
 
-fn some_agree(
-    events: &[Event],
-    chunk: u64,
-    osds: &[u32],
-    clean: Option<u32>,
-    id: &ObjectId,
-) -> bool
+fn some_agree(events: &[Event], chunk: u64, osds: &[u32], clean: Option<u32>, id: &ObjectId) -> bool
     requires { AreOrdered (reverse events.now) }
     ensures { result ≡ list_any (λ osd. in_some (has_digest clean id.now) (taken_by (reverse events.now) chunk osd)) osds.now }
 {

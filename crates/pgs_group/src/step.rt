@@ -11,21 +11,40 @@ use sqlite_items::Items;
 #[derive(Drop)]
 pub enum Step {
     /// A client sends a write.
-    Submit { write: Write },
+    Submit {
+        write: Write,
+    },
     /// A client asks for the outcome of a request.
-    Collect { id: ReqId },
+    Collect {
+        id: ReqId,
+    },
     /// A member pulls the log.
-    Pull { osd: u32 },
+    Pull {
+        osd: u32,
+    },
     /// A member tells how far it has applied the log.
-    Tell { osd: u32, applied: u64 },
+    Tell {
+        osd: u32,
+        applied: u64,
+    },
     /// A scrub is to begin.
-    Begin { kind: Kind },
+    Begin {
+        kind: Kind,
+    },
     /// A chunk of the running scrub is to be opened; the positions are the primary's.
-    Open { serial: u64, listed: Items<ObjectId> },
+    Open {
+        serial: u64,
+        listed: Items<ObjectId>,
+    },
     /// A member gives its map of a chunk, made at this place of its shard's events.
-    Take { place: u64, map: ScrubMap },
+    Take {
+        place: u64,
+        map: ScrubMap,
+    },
     /// A chunk is to be closed.
-    Close { chunk: u64 },
+    Close {
+        chunk: u64,
+    },
 }
 
 /// What a group answers to a step of the same kind.

@@ -1,8 +1,8 @@
 -- Each chunk of a legal history has one fate, but for the one that is open.
-use Rattle.std.proofs.Common.{◌≡◌, ℕ, suc, ◌+◌, ◌≤◌, ◌<◌, ◌==◌, Bool, true, false, cond, List, [], ◌∷◌, Option, Some, None, refl, sym, ap, ◌∙◌, subst, arith}
+use Rattle.std.proofs.Common.{◌≡◌, ℕ, ◌+◌, ◌≤◌, ◌<◌, ◌==◌, Bool, true, false, cond, List, [], ◌∷◌, Option, Some, None, refl, sym, ap, ◌∙◌, subst, arith}
 use Rattle.std.proofs.lemmas.Bool.Decides.{nat_tests}
 use Rattle.pgs_bytes.proofs.Facts.{none_some, some_same, true_false}
-use Rattle.pgs_history.specs.Scrubs.{opened, open_chunk, has_number, is_open, closes}
+use Rattle.pgs_history.specs.Scrubs.{opened, open_chunk, has_number, closes}
 use Rattle.pgs_history.specs.Legal.{IsLegal}
 use Rattle.pgs_history.specs.Chunks.{AreFated}
 use Rattle.pgs_history.specs.declared.made.Made.{Made}

@@ -1,25 +1,23 @@
 -- The closed chunks of each scrub of a legal history lie in a row.
-use Rattle.std.proofs.Common.{◌≡◌, ℕ, ◌+◌, ◌≤◌, ◌<◌, ◌==◌, ◌&&◌, ◌||◌, Bool, true, false, not, cond, List, [], ◌∷◌, Option, Some, None, refl, sym, ap, ◌∙◌, subst, arith}
+use Rattle.std.proofs.Common.{◌≡◌, ℕ, ◌+◌, ◌≤◌, ◌<◌, ◌==◌, ◌&&◌, ◌||◌, Bool, true, false, cond, List, [], ◌∷◌, Option, Some, None, refl, sym, ap, ◌∙◌, subst, arith}
 use Rattle.std.specs.Ordering.{is_le, ordering_reverse}
 use Rattle.std.specs.declared.cmp.Ordering.{Ordering}
 use Rattle.std.specs.declared.cmp.Ordering.TheVariants.{Less, Equal, Greater}
 use Rattle.std.proofs.lemmas.Bool.Decides.{nat_tests}
 use Rattle.pgs_bytes.proofs.Facts.{none_some, some_same, true_false, both}
-use Rattle.pgs_name.specs.Families.{Family}
 use Rattle.pgs_name.specs.declared.object_id.ObjectId.{ObjectId}
 use Rattle.pgs_range.specs.Ends.{bound_cmp, is_upto}
-use Rattle.pgs_range.specs.Rows.{AreInRow, times_held}
+use Rattle.pgs_range.specs.Rows.{AreInRow}
 use Rattle.pgs_range.specs.declared.bound.Bound.{Bound}
 use Rattle.pgs_range.specs.declared.bound.Bound.TheVariants.{Min, At, Max}
-use Rattle.pgs_range.specs.declared.family_range.FamilyRange.{FamilyRange}
 use Rattle.pgs_range.proofs.Ends.{bound_total}
 use Rattle.pgs_range.proofs.Rows.{held_once}
 use Rattle.pgs_chunk.specs.Positions.{Ascends}
 use Rattle.pgs_chunk.proofs.Chunks.{chunk_rises}
-use Rattle.pgs_history.specs.Scrubs.{begun, running, opened, open_chunk, has_number, end_of, start, limit_now, closed_ranges, with_range, completed, is_of}
+use Rattle.pgs_history.specs.Scrubs.{begun, running, open_chunk, has_number, end_of, start, limit_now, closed_ranges, with_range, completed, is_of}
 use Rattle.pgs_history.specs.Answers.{is_last, is_greatest, next_chunk}
 use Rattle.pgs_history.specs.Legal.{IsLegal}
-use Rattle.pgs_history.specs.Chunks.{IsTiled, AreTiled}
+use Rattle.pgs_history.specs.Chunks.{AreTiled}
 use Rattle.pgs_history.specs.declared.made.Made.{Made}
 use Rattle.pgs_history.specs.declared.chunk.Chunk.{Chunk}
 use Rattle.pgs_history.specs.declared.event.Event.{Event}
@@ -27,7 +25,7 @@ use Rattle.pgs_history.specs.declared.event.Event.TheVariants.{Submit, Collect, 
 use Rattle.pgs_history.specs.declared.begin_answer.BeginAnswer.TheVariants.{Busy, Began}
 use Rattle.pgs_history.specs.declared.open_answer.OpenAnswer.TheVariants.{Already, Opened}
 use Rattle.pgs_history.specs.declared.close_answer.CloseAnswer.TheVariants as ends
-use Rattle.pgs_history.proofs.Steps.{began_is, opened_is, IsClosed, closed_is}
+use Rattle.pgs_history.proofs.Steps.{began_is, opened_is, closed_is}
 
 -- the open chunk is of the scrub that runs, and begins where that scrub's closed chunks end
 pub record IsNow (past : List Event) (chunk : Chunk) : Type 0 where
@@ -156,10 +154,10 @@ module _ (past : List Event) (number findings : ℕ) (completes : Bool) (h : IsW
         let runs : running past ≡ Some serial = now_is.runs ∙ ap (λ n. Some n) same in
         let before = s.now runs in
         let ranges : closed_ranges new serial ≡ chunk.range ∷ closed_ranges past serial =
-            ap (λ c. with_range c serial (closed_ranges past serial)) is ∙ ap (λ b. cond b (chunk.range ∷ closed_ranges past serial) (closed_ranges past serial)) test in
+        ap (λ c. with_range c serial (closed_ranges past serial)) is ∙ ap (λ b. cond b (chunk.range ∷ closed_ranges past serial) (closed_ranges past serial)) test in
         let done : completed new serial ≡ (completes && true) =
-            or_false (completed past serial) (completes && is_of (open_chunk past) serial) before.1
-            ∙ ap (λ c. completes && is_of c serial) is ∙ ap (λ b. completes && b) test in
+        or_false (completed past serial) (completes && is_of (open_chunk past) serial) before.1
+        ∙ ap (λ c. completes && is_of c serial) is ∙ ap (λ b. completes && b) test in
         record {
           end = chunk.range.to;
           row = subst (λ rs. AreInRow Min rs chunk.range.to) (sym ranges) (refl, now_is.rises, subst (AreInRow Min (closed_ranges past serial)) (before.0 ∙ sym now_is.begins) s.row);
@@ -173,9 +171,9 @@ module _ (past : List Event) (number findings : ℕ) (completes : Bool) (h : IsW
     another serial test =
         let s = h.each serial in
         let ranges : closed_ranges new serial ≡ closed_ranges past serial =
-            ap (λ c. with_range c serial (closed_ranges past serial)) is ∙ ap (λ b. cond b (chunk.range ∷ closed_ranges past serial) (closed_ranges past serial)) test in
+        ap (λ c. with_range c serial (closed_ranges past serial)) is ∙ ap (λ b. cond b (chunk.range ∷ closed_ranges past serial) (closed_ranges past serial)) test in
         let done : completed new serial ≡ completed past serial =
-            ap (λ c. completed past serial || (completes && is_of c serial)) is ∙ ap (λ b. completed past serial || (completes && b)) test ∙ nothing (completed past serial) completes in
+        ap (λ c. completed past serial || (completes && is_of c serial)) is ∙ ap (λ b. completed past serial || (completes && b)) test ∙ nothing (completed past serial) completes in
         record {
           end = s.end;
           row = subst (λ rs. AreInRow Min rs s.end) (sym ranges) s.row;
@@ -191,6 +189,7 @@ module _ (past : List Event) (number findings : ℕ) (completes : Bool) (h : IsW
         nothing true b = refl
         nothing false true = refl
         nothing false false = refl
+
         same_test : (a b : ℕ) → a ≡ b → (a == b) ≡ true
         same_test a b e = grind (arith, nat_tests, e)
 

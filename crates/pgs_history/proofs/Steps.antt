@@ -1,18 +1,18 @@
 -- What the events of a legal history tell of the chunks before them.
-use Rattle.std.proofs.Common.{◌≡◌, ℕ, ◌+◌, ◌≤◌, ◌==◌, ◌||◌, nat_lt, Bool, true, false, not, List, [], ◌∷◌, Option, Some, None, refl, sym, ap, ◌∙◌, arith}
+use Rattle.std.proofs.Common.{◌≡◌, ℕ, ◌+◌, ◌≤◌, ◌==◌, ◌||◌, nat_lt, Bool, true, false, not, List, [], ◌∷◌, Option, Some, None, refl, arith}
 use Rattle.std.specs.Prelude.{option_map}
 use Rattle.std.specs.Bool.{then_some}
 use Rattle.std.proofs.lemmas.Bool.Decides.{nat_tests}
 use Rattle.pgs_bytes.proofs.Facts.{true_false}
 use Rattle.pgs_name.specs.declared.object_id.ObjectId.{ObjectId}
 use Rattle.pgs_op.specs.Effects.{first}
-use Rattle.pgs_history.specs.Scrubs.{running, begun, opened, open_chunk, has_number, is_open}
+use Rattle.pgs_history.specs.Scrubs.{running, begun, opened, open_chunk, is_open}
 use Rattle.pgs_history.specs.Answers.{unclosed, or_closed, found, is_last, missing, begin_answered, begin_answer, open_answer, open_answered, next_chunk, close_answer}
 use Rattle.pgs_history.specs.declared.made.Made.{Made}
 use Rattle.pgs_history.specs.declared.chunk.Chunk.{Chunk}
 use Rattle.pgs_history.specs.declared.event.Event.{Event}
-use Rattle.pgs_history.specs.declared.begin_answer.BeginAnswer.TheVariants.{Busy, Began}
-use Rattle.pgs_history.specs.declared.open_answer.OpenAnswer.TheVariants.{Already, Opened}
+use Rattle.pgs_history.specs.declared.begin_answer.BeginAnswer.TheVariants.{Began}
+use Rattle.pgs_history.specs.declared.open_answer.OpenAnswer.TheVariants.{Opened}
 use Rattle.pgs_history.specs.declared.close_answer.CloseAnswer.TheVariants as ends
 
 -- ---- a scrub that began
@@ -62,7 +62,7 @@ pub closed_is : (made : Made) (past : List Event) (number findings : ℕ) (compl
 unfolding unclosed
 closed_is made past number findings completes e =
     let h = closed_from ((number == 0) || nat_lt (opened past) number) (not (is_open past number)) (missing made past number) (found made past number) findings
-        (is_last (open_chunk past)) completes e in
+    (is_last (open_chunk past)) completes e in
     let within = either (number == 0) (nat_lt (opened past) number) h.0 in
     record {
       some = within.0;

@@ -21,7 +21,7 @@ use Rattle.pgs_range.specs.declared.bound.Bound.{Bound}
 use Rattle.pgs_range.specs.declared.bound.Bound.TheVariants.{Min, At, Max}
 use Rattle.pgs_chunk.specs.Chunk.{chunk_of}
 use Rattle.pgs_map.specs.declared.scrub_map.ScrubMap.{ScrubMap}
-use Rattle.pgs_history.specs.Scrubs.{begun, running, opened, open_chunk, has_number, is_open, start, used, limit_now, is_firm, taken}
+use Rattle.pgs_history.specs.Scrubs.{begun, running, opened, open_chunk, has_number, is_open, start, limit_now, is_firm, taken}
 use Rattle.pgs_history.specs.Findings.{findings_of}
 use Rattle.pgs_history.specs.declared.begin_answer.BeginAnswer.{BeginAnswer}
 use Rattle.pgs_history.specs.declared.begin_answer.BeginAnswer.TheVariants.{Busy, Began}

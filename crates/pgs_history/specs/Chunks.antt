@@ -1,11 +1,11 @@
 -- What holds of the scrubs and chunks of a legal history.
-use Rattle.std.specs.Prelude.{ℕ, ◌≡◌, ◌≤◌, ◌<◌, ◌+◌, true, List, [], ◌∷◌, Some, if◌then◌else◌}
+use Rattle.std.specs.Prelude.{ℕ, ◌≡◌, ◌≤◌, ◌<◌, true, List, [], ◌∷◌, Some, if◌then◌else◌}
 use Rattle.pgs_name.specs.Families.{Family}
 use Rattle.pgs_range.specs.Rows.{AreInRow, times_held}
 use Rattle.pgs_range.specs.declared.bound.Bound.{Bound}
 use Rattle.pgs_range.specs.declared.bound.Bound.TheVariants.{Min, Max}
 use Rattle.pgs_map.specs.Entries.{AreInRange}
-use Rattle.pgs_history.specs.Scrubs.{begun, running, opened, open_chunk, is_open, start, closes, closed_ranges, completed}
+use Rattle.pgs_history.specs.Scrubs.{opened, open_chunk, is_open, closes, closed_ranges, completed}
 use Rattle.pgs_history.specs.declared.chunk.Chunk.{Chunk}
 use Rattle.pgs_history.specs.declared.event.Event.{Event}
 use Rattle.pgs_history.specs.declared.event.Event.TheVariants.{Take}

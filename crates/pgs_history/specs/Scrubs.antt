@@ -1,7 +1,7 @@
 -- The scrubs of a group and their chunks, by its events, the newest first.
-use Rattle.std.specs.Prelude.{ℕ, ◌+◌, ◌==◌, ◌&&◌, ◌||◌, Bool, true, false, List, [], ◌∷◌, Option, Some, None, if◌then◌else◌}
+use Rattle.std.specs.Prelude.{ℕ, ◌+◌, ◌==◌, ◌&&◌, ◌||◌, Bool, false, List, [], ◌∷◌, Option, Some, None, if◌then◌else◌}
 use Rattle.pgs_range.specs.declared.bound.Bound.{Bound}
-use Rattle.pgs_range.specs.declared.bound.Bound.TheVariants.{Min, At, Max}
+use Rattle.pgs_range.specs.declared.bound.Bound.TheVariants.{Min}
 use Rattle.pgs_range.specs.declared.family_range.FamilyRange.{FamilyRange}
 use Rattle.pgs_chunk.specs.Limits.{limit_after}
 use Rattle.pgs_map.specs.declared.scrub_map.ScrubMap.{ScrubMap}

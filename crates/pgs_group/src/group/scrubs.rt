@@ -47,8 +47,10 @@ impl Group {
         requires some { is_some (primary self.now.made) ≡ true }
         ensures { IfOk result (λ next. IsNextChunk self.now.made self.now.past next) }
     {
-        if let Some(open) = &self.scrubs.open_chunk {
-            return Ok(NextChunk::Already { chunk: open.number });
+        if let Some(chunk) = &self.scrubs.open_chunk {
+            return Ok(NextChunk::Already {
+                chunk: chunk.number,
+            });
         }
         let Some(primary) = self.made.members.as_slice().first() else {
             unreachable!()
@@ -122,7 +124,8 @@ impl Group {
     {
         self.events.reserve(1)?;
         let answer = self.scrubs.take_answer(map.chunk);
-        self.events.push_reserved(Event::Take { place, map, answer });
+        self.events
+            .push_reserved(Event::Take { place, map, answer });
         Ok(answer)
     }
 
@@ -174,7 +177,10 @@ impl Group {
         }
         let findings = self.found(chunk)?;
         let completes = self.scrubs.close();
-        let answer = CloseAnswer::Closed { findings, completes };
+        let answer = CloseAnswer::Closed {
+            findings,
+            completes,
+        };
         self.events.push_reserved(Event::Close { chunk, answer });
         Ok(answer)
     }
