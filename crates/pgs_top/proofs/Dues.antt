@@ -5,8 +5,9 @@ use Rattle.pgs_edge.specs.Reading.{GaveAtLeast}
 use Rattle.pgs_texts.specs.Text.{IsTextOf, IsLimit}
 use Rattle.pgs_script.specs.Script.{script_grammar}
 use Rattle.pgs_order.specs.declared.step_script.StepScript.{StepScript}
+use Rattle.pgs_chunk.specs.declared.settings.Settings.{Settings}
 use Rattle.pgs_top.specs.Histories.{no_histories}
-use Rattle.pgs_top.specs.Ends.{INPUT_MAX, PassesLimit, IsDue, Tells, Due, Scripted, IsRun}
+use Rattle.pgs_top.specs.Ends.{INPUT_MAX, PassesLimit, IsDue, Tells, Due, Scripted, IsRefusal, IsRun}
 use Rattle.pgs_top.specs.declared.histories.Histories.{Histories}
 use Rattle.pgs_top.specs.declared.ended.Status.{Status}
 use Rattle.pgs_top.specs.declared.ended.Status.TheVariants as ends
@@ -36,39 +37,49 @@ pub scripted_all : (told : Option (List ℕ)) (text : List ℕ) (script : StepSc
     → IsTextOf script_grammar script text → Scripted told script
 scripted_all told text script h within reads = record { input = text; tells = tells_all told text h; within = within; reads = reads }
 
-pub refused_all : (told : Option (List ℕ)) (text : List ℕ) (status : Status) → IfSome told (λ input. text ≡ input) → IsDue text no_histories status
-    → Due told no_histories status
-refused_all told text status h due = record { input = text; tells = tells_all told text h; due = due }
+pub refused_all : (settings : Settings) (told : Option (List ℕ)) (text : List ℕ) (status : Status) → IfSome told (λ input. text ≡ input) → IsDue settings text no_histories status
+    → Due settings told no_histories status
+refused_all settings told text status h due = record { input = text; tells = tells_all told text h; due = due }
 
-pub fault_due : (told : Option (List ℕ)) → Due told no_histories ends.ReadFault
-fault_due told = record { input = some_input told; tells = tells_some told; due = refl }
+pub fault_due : (settings : Settings) (told : Option (List ℕ)) → Due settings told no_histories ends.ReadFault
+fault_due settings told = record { input = some_input told; tells = tells_some told; due = refl }
 
-pub memory_due : (told : Option (List ℕ)) → Due told no_histories ends.Memory
-memory_due told = record { input = some_input told; tells = tells_some told; due = refl }
+pub memory_due : (settings : Settings) (told : Option (List ℕ)) → Due settings told no_histories ends.Memory
+memory_due settings told = record { input = some_input told; tells = tells_some told; due = refl }
 
-pub words_due : (told : Option (List ℕ)) (kept : Histories) → kept ≡ no_histories → Due told kept ends.BadWords
-words_due told kept none = record { input = some_input told; tells = tells_some told; due = none }
+pub words_due : (settings : Settings) (told : Option (List ℕ)) (kept : Histories) → kept ≡ no_histories → Due settings told kept ends.BadWords
+words_due settings told kept none = record { input = some_input told; tells = tells_some told; due = none }
 
-pub long_due : (told new : Option (List ℕ)) → GaveAtLeast told new (INPUT_MAX + 1) → Due told no_histories (ends.Limit 0)
-long_due None new gave = record { input = gave.0; tells = tt; due = (long gave.2, refl) }
+pub long_due : (settings : Settings) (told new : Option (List ℕ)) → GaveAtLeast told new (INPUT_MAX + 1) → Due settings told no_histories (ends.Limit 0)
+long_due settings None new gave = record { input = gave.0; tells = tt; due = (long gave.2, refl) }
   where
     long : {n : ℕ} → INPUT_MAX + 1 ≤ n → INPUT_MAX < n
     long h = omega arith
-long_due (Some bytes) None gave = absurd gave.1
-long_due (Some bytes) (Some rest) gave =
+long_due settings (Some bytes) None gave = absurd gave.1
+long_due settings (Some bytes) (Some rest) gave =
     let size : length bytes ≡ length gave.0 + length rest = ap length gave.1 ∙ length-append gave.0 rest in
     let least : INPUT_MAX + 1 ≤ length gave.0 = gave.2 in
     record { input = bytes; tells = refl; due = (omega arith, refl) }
 
 -- ---- the run of a script
 
-pub run_due : (told : Option (List ℕ)) (script : StepScript) (kept : Histories) (status : Status) → Scripted told script → IsRun script kept status → Due told kept status
-run_due told script kept ends.Ok read run = record { input = read.input; tells = read.tells; due = record { within = read.within; script = script; reads = read.reads; happened = run } }
-run_due told script kept ends.BadWords read run = absurd run
-run_due told script kept (ends.BadLine line) read run = absurd run
-run_due told script kept ends.ReadFault read run = absurd run
-run_due told script kept ends.WriteFault read run = record { input = read.input; tells = read.tells; due = record { within = read.within; script = script; reads = read.reads; happened = run } }
-run_due told script kept (ends.Limit line) read run = absurd run
-run_due told script kept ends.Memory read run = record { input = read.input; tells = read.tells; due = run }
+pub run_due : (settings : Settings) (told : Option (List ℕ)) (script : StepScript) (kept : Histories) (status : Status) → Scripted told script → IsRun settings script kept status → Due settings told kept status
+run_due settings told script kept ends.Ok read run = record { input = read.input; tells = read.tells; due = record { within = read.within; script = script; reads = read.reads; happened = run } }
+run_due settings told script kept ends.BadWords read run = absurd run
+run_due settings told script kept (ends.BadLine line) read run = absurd run
+run_due settings told script kept ends.ReadFault read run = absurd run
+run_due settings told script kept ends.WriteFault read run = record { input = read.input; tells = read.tells; due = record { within = read.within; script = script; reads = read.reads; happened = run } }
+run_due settings told script kept (ends.Limit line) read run = absurd run
+run_due settings told script kept ends.Memory read run = record { input = read.input; tells = read.tells; due = run }
+
+-- a refusal turns on no setting
+pub any_settings : (a b : Settings) (told : Option (List ℕ)) (status : Status) → IsRefusal status → Due a told no_histories status → Due b told no_histories status
+any_settings a b told ends.Ok is due = absurd is
+any_settings a b told ends.BadWords is due = absurd is
+any_settings a b told (ends.BadLine line) is due = record { input = due.input; tells = due.tells; due = due.due }
+any_settings a b told ends.ReadFault is due = record { input = due.input; tells = due.tells; due = due.due }
+any_settings a b told ends.WriteFault is due = absurd is
+any_settings a b told (ends.Limit line) is due = record { input = due.input; tells = due.tells; due = due.due }
+any_settings a b told ends.Memory is due = record { input = due.input; tells = due.tells; due = due.due }
 
 pub ruleset dues = (scripted_all, refused_all, fault_due, memory_due, long_due)

@@ -4,6 +4,7 @@ use Rattle.std.specs.Fmt.{decimal}
 use Rattle.std.specs.Io.KnownBytes.{Appends, Keeps}
 use Rattle.pgs_texts.specs.Text.{IsTextOf, IsBadLine, IsLimit}
 use Rattle.pgs_script.specs.Script.{script_grammar}
+use Rattle.pgs_chunk.specs.declared.settings.Settings.{Settings}
 use Rattle.pgs_order.specs.declared.step_script.StepScript.{StepScript}
 use Rattle.pgs_top.specs.Histories.{histories_of, no_histories}
 use Rattle.pgs_top.specs.Output.{text_of}
@@ -39,11 +40,11 @@ abbrev pub replay_words : List (List ℕ)
 replay_words = codes "replay" ∷ []
 
 -- An input was read whole, it is the text of a script, and what happened is what happens in this script.
-pub record Ran (input : List ℕ) (kept : Histories) : Type 0 where
+pub record Ran (settings : Settings) (input : List ℕ) (kept : Histories) : Type 0 where
   pub within : length input ≤ INPUT_MAX
   pub script : StepScript
   pub reads : IsTextOf script_grammar script input
-  pub happened : kept ≡ histories_of script
+  pub happened : kept ≡ histories_of settings script
 
 -- An input was read whole and is refused at a line.
 pub record RefusedAt (input : List ℕ) (line : ℕ) : Type 0 where
@@ -57,14 +58,14 @@ PassesLimit input (suc line) = (length input ≤ INPUT_MAX) × IsLimit script_gr
 
 -- What an input and what happened are under a status. The conditions of `Ok`, `BadLine` and `Limit` exclude each other,
 -- so each of them comes exactly where its condition holds, unless an end failed or memory ran out.
-abbrev pub IsDue : List ℕ → Histories → Status → Type 0
-IsDue input kept ends.Ok = Ran input kept
-IsDue input kept ends.BadWords = kept ≡ no_histories
-IsDue input kept (ends.BadLine line) = RefusedAt input line × (kept ≡ no_histories)
-IsDue input kept ends.ReadFault = kept ≡ no_histories
-IsDue input kept ends.WriteFault = Ran input kept
-IsDue input kept (ends.Limit line) = PassesLimit input line × (kept ≡ no_histories)
-IsDue input kept ends.Memory = kept ≡ no_histories
+abbrev pub IsDue : Settings → List ℕ → Histories → Status → Type 0
+IsDue settings input kept ends.Ok = Ran settings input kept
+IsDue settings input kept ends.BadWords = kept ≡ no_histories
+IsDue settings input kept (ends.BadLine line) = RefusedAt input line × (kept ≡ no_histories)
+IsDue settings input kept ends.ReadFault = kept ≡ no_histories
+IsDue settings input kept ends.WriteFault = Ran settings input kept
+IsDue settings input kept (ends.Limit line) = PassesLimit input line × (kept ≡ no_histories)
+IsDue settings input kept ends.Memory = kept ≡ no_histories
 
 -- the bytes that a source had, where it tells them
 abbrev pub Tells : Option (List ℕ) → List ℕ → Type 0
@@ -72,10 +73,10 @@ Tells None input = Unit {0}
 Tells (Some bytes) input = bytes ≡ input
 
 -- There is an input that the source had, under which this status is due.
-pub record Due (told : Option (List ℕ)) (kept : Histories) (status : Status) : Type 0 where
+pub record Due (settings : Settings) (told : Option (List ℕ)) (kept : Histories) (status : Status) : Type 0 where
   pub input : List ℕ
   pub tells : Tells told input
-  pub due : IsDue input kept status
+  pub due : IsDue settings input kept status
 
 -- a front of a text was written
 pub record WritesFront (old new : Option (List ℕ)) (text : List ℕ) : Type 0 where
@@ -112,11 +113,11 @@ IsRefusal (ends.Limit line) = Unit {0}
 IsRefusal ends.Memory = Unit {0}
 
 -- how the run of a script ends, and what happened in it
-abbrev pub IsRun : StepScript → Histories → Status → Type 0
-IsRun script kept ends.Ok = kept ≡ histories_of script
-IsRun script kept ends.BadWords = ⊥
-IsRun script kept (ends.BadLine line) = ⊥
-IsRun script kept ends.ReadFault = ⊥
-IsRun script kept ends.WriteFault = kept ≡ histories_of script
-IsRun script kept (ends.Limit line) = ⊥
-IsRun script kept ends.Memory = kept ≡ no_histories
+abbrev pub IsRun : Settings → StepScript → Histories → Status → Type 0
+IsRun settings script kept ends.Ok = kept ≡ histories_of settings script
+IsRun settings script kept ends.BadWords = ⊥
+IsRun settings script kept (ends.BadLine line) = ⊥
+IsRun settings script kept ends.ReadFault = ⊥
+IsRun settings script kept ends.WriteFault = kept ≡ histories_of settings script
+IsRun settings script kept (ends.Limit line) = ⊥
+IsRun settings script kept ends.Memory = kept ≡ no_histories

@@ -1,10 +1,12 @@
 ghost use Rattle.std.specs.Prelude.{◌≡◌, ◌≢◌, ◌≤◌, length, IfOk, IfErr};
 ghost use Rattle.pgs_cause.specs.Count.{Rose};
+ghost use Rattle.pgs_chunk.specs.Limits.{usual_settings};
 ghost use Rattle.pgs_texts.specs.Text.{IsTextOf};
 ghost use Rattle.pgs_order.specs.Ordered.{IsOrdered};
 ghost use Rattle.pgs_script.specs.Script.{script_grammar};
 ghost use Rattle.pgs_world.specs.Acknowledged.{AreAcknowledged};
 ghost use Rattle.pgs_world.specs.Counts.{AreInStep, IsOrderly};
+ghost use Rattle.pgs_world.specs.Scrubbed.{AreScrubbed};
 ghost use Rattle.pgs_world.specs.Sound.{IsSound};
 ghost use Rattle.pgs_top.specs.Histories.{histories_of, no_histories, OfWorld};
 ghost use Rattle.pgs_top.specs.Ends.{INPUT_MAX, IsDue, Due, IsWritten, Scripted, IsRefusal, IsRun};
@@ -12,6 +14,7 @@ ghost use Rattle.pgs_top.specs.Ends.{INPUT_MAX, IsDue, Due, IsWritten, Scripted,
 use crate::ended::{Ended, Status};
 use crate::keep::{keep, nothing};
 use crate::text::text;
+use pgs_chunk::Settings;
 use pgs_edge::{ReadAllError, Sink, Source, read_all, write_all};
 use pgs_script::{StepScript, parse_steps};
 use pgs_texts::ScriptError;
@@ -23,7 +26,7 @@ fn script_of(alloc: Global, text: &[u8]) -> Result<StepScript, Status>
     requires { length text.now ≤ INPUT_MAX }
     ensures reads { IfOk result (λ script. IsTextOf script_grammar script text.now) }
     ensures ordered { IfOk result (λ script. IsOrdered script) }
-    ensures due { IfErr result (λ status. IsDue text.now no_histories status) }
+    ensures due { IfErr result (λ status. IsDue usual_settings text.now no_histories status) }
     ensures refusal { IfErr result (λ status. IsRefusal status) }
     ensures no_fault { IfErr result (λ status. status ≢ Status.ReadFault) }
 {
@@ -40,7 +43,7 @@ fn script_of(alloc: Global, text: &[u8]) -> Result<StepScript, Status>
 fn read_script<S: Source>(alloc: Global, source: &mut S) -> Result<StepScript, Status>
     ensures scripted { IfOk result (λ script. Scripted (S.left source.old) script) }
     ensures ordered { IfOk result (λ script. IsOrdered script) }
-    ensures due { IfErr result (λ status. Due (S.left source.old) no_histories status) }
+    ensures due { IfErr result (λ status. Due usual_settings (S.left source.old) no_histories status) }
     ensures refusal { IfErr result (λ status. IsRefusal status) }
     ensures fault { IfErr result (λ status. status ≡ Status.ReadFault → Rose (S.faults source.old) (S.faults source.new)) }
 {
@@ -53,14 +56,15 @@ fn read_script<S: Source>(alloc: Global, source: &mut S) -> Result<StepScript, S
 }
 
 // What happens in a script, written.
-fn run<K: Sink>(alloc: Global, script: StepScript, sink: &mut K) -> Ended
+fn run<K: Sink>(alloc: Global, settings: Settings, script: StepScript, sink: &mut K) -> Ended
     requires { IsOrdered script }
-    ensures run { IsRun script result.kept result.status }
+    ensures run { IsRun settings script result.kept result.status }
     ensures sound { OfWorld IsSound result.kept.world }
+    ensures scrubbed { OfWorld AreScrubbed result.kept.world }
     ensures written { IsWritten (K.taken sink.old) (K.taken sink.new) result.kept result.status }
     ensures fault { result.status ≡ Status.WriteFault → Rose (K.faults sink.old) (K.faults sink.new) }
 {
-    let Ok(kept) = keep(alloc, script) else {
+    let Ok(kept) = keep(alloc, settings, script) else {
         return Ended {
             status: Status::Memory,
             kept: nothing(alloc),
@@ -85,10 +89,15 @@ fn run<K: Sink>(alloc: Global, script: StepScript, sink: &mut K) -> Ended
 }
 
 /// Reads a script, replays it, and writes what happened. Nothing is written before the whole script was read.
-#[tactic(auto, using(crate::proofs::Dues::run_due, crate::proofs::Worlds::acknowledged, crate::proofs::Worlds::in_step, crate::proofs::Worlds::orderly))]
-pub fn replay<S: Source, K: Sink>(alloc: Global, source: &mut S, sink: &mut K) -> Ended
+#[tactic(auto, using(crate::proofs::Dues::run_due, crate::proofs::Dues::any_settings, crate::proofs::Worlds::acknowledged, crate::proofs::Worlds::in_step, crate::proofs::Worlds::orderly))]
+pub fn replay<S: Source, K: Sink>(
+    alloc: Global,
+    settings: Settings,
+    source: &mut S,
+    sink: &mut K,
+) -> Ended
     // How it ends is due for what was read,
-    ensures due { Due (S.left source.old) result.kept result.status }
+    ensures due { Due settings (S.left source.old) result.kept result.status }
     // and what is written for what happened.
     ensures written { IsWritten (K.taken sink.old) (K.taken sink.new) result.kept result.status }
     // Every write that was answered as acknowledged stands in the log once, and each acting OSD applied it.
@@ -97,13 +106,16 @@ pub fn replay<S: Source, K: Sink>(alloc: Global, source: &mut S, sink: &mut K) -
     ensures orderly { OfWorld IsOrderly result.kept.world }
     // Members told of no more than they applied, and applied no more than they pulled of the log, in its order.
     ensures in_step { OfWorld AreInStep result.kept.world }
+    // No scrub was left incomplete; each chunk was closed once; and the closed chunks of each scrub lie in a row, those of a
+    // complete one from below all families to above them, so that they hold each position once.
+    ensures scrubbed { OfWorld AreScrubbed result.kept.world }
     // A fault comes only where the count of that end rose.
     ensures read_fault { result.status ≡ Status.ReadFault → Rose (S.faults source.old) (S.faults source.new) }
     ensures write_fault { result.status ≡ Status.WriteFault → Rose (K.faults sink.old) (K.faults sink.new) }
     ensures words { result.status ≢ Status.BadWords }
 {
     match read_script(alloc, source) {
-        Ok(script) => run(alloc, script, sink),
+        Ok(script) => run(alloc, settings, script, sink),
         Err(status) => Ended {
             status,
             kept: nothing(alloc),

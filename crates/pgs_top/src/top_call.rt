@@ -1,6 +1,8 @@
 ghost use Rattle.std.specs.Prelude.{◌≡◌, ◌≢◌, ◌↔◌, map, string_bytes, MatchBool};
 ghost use Rattle.pgs_cause.specs.Count.{Rose};
+ghost use Rattle.pgs_chunk.specs.Limits.{usual_settings};
 ghost use Rattle.pgs_world.specs.Acknowledged.{AreAcknowledged};
+ghost use Rattle.pgs_world.specs.Scrubbed.{AreScrubbed};
 ghost use Rattle.pgs_world.specs.Counts.{AreInStep, IsOrderly};
 ghost use Rattle.pgs_top.specs.Histories.{OfWorld};
 ghost use Rattle.pgs_top.specs.Ends.{Due, IsWritten, replay_words};
@@ -8,6 +10,7 @@ ghost use Rattle.pgs_top.specs.Ends.{Due, IsWritten, replay_words};
 use crate::ended::{Ended, Status};
 use crate::keep::nothing;
 use crate::replaying::replay;
+use pgs_chunk::Settings;
 use pgs_edge::{Sink, Source};
 use std::alloc::Global;
 
@@ -31,7 +34,7 @@ pub fn top<S: Source, K: Sink>(
 ) -> Ended
     ensures words { (result.status ≡ Status.BadWords) ↔ (map string_bytes words.now ≢ replay_words) }
     // How it ends is due for what was read,
-    ensures due { Due (S.left source.old) result.kept result.status }
+    ensures due { Due usual_settings (S.left source.old) result.kept result.status }
     // and what is written for what happened.
     ensures written { IsWritten (K.taken sink.old) (K.taken sink.new) result.kept result.status }
     // Every write that was answered as acknowledged stands in the log once, and each acting OSD applied it.
@@ -40,12 +43,15 @@ pub fn top<S: Source, K: Sink>(
     ensures orderly { OfWorld IsOrderly result.kept.world }
     // Members told of no more than they applied, and applied no more than they pulled of the log, in its order.
     ensures in_step { OfWorld AreInStep result.kept.world }
+    // No scrub was left incomplete; each chunk was closed once; and the closed chunks of each scrub lie in a row, those of a
+    // complete one from below all families to above them, so that they hold each position once.
+    ensures scrubbed { OfWorld AreScrubbed result.kept.world }
     // A fault comes only where the count of that end rose.
     ensures read_fault { result.status ≡ Status.ReadFault → Rose (S.faults source.old) (S.faults source.new) }
     ensures write_fault { result.status ≡ Status.WriteFault → Rose (K.faults sink.old) (K.faults sink.new) }
 {
     if is_replay(words) {
-        return replay(alloc, source, sink);
+        return replay(alloc, Settings::usual(), source, sink);
     }
     Ended {
         status: Status::BadWords,
