@@ -1,0 +1,2 @@
+-- What the tests' lists are.
+pub mod Few

@@ -1,0 +1,9 @@
+//! Tests of the scrubs of a group: each public call once.
+#![tactic(auto)]
+
+mod making;
+
+pub use making::{head, heads, last_head, made, map_of, written};
+
+#[cfg(test)]
+mod tests;

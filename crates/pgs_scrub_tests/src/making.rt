@@ -1,0 +1,122 @@
+//! A group of three members, what is written to it, and what its members tell.
+ghost use Rattle.std.specs.Prelude.{IfOk};
+ghost use Rattle.pgs_chunk.specs.Positions.{Ascends};
+ghost use Rattle.pgs_map.specs.Entries.{AreInRange};
+
+use pgs_bytes::Bytes;
+use pgs_chunk::Limits;
+use pgs_history::Made;
+use pgs_map::{Entry, ScrubMap};
+use pgs_name::{HEAD, NameError, ObjectId, compare};
+use pgs_op::Write;
+use pgs_range::FamilyRange;
+use pgs_request::{Op, Payload, ReqId};
+use sqlite_items::Items;
+use std::alloc::{AllocError, Global};
+use std::cmp::Ordering;
+
+/// A group of the OSDs 0, 1 and 2, whose chunks have one position each.
+pub fn made(alloc: Global, preemptions: u32) -> Result<Made, AllocError> {
+    let mut members = Items::new(alloc);
+    members.push(0)?;
+    members.push(1)?;
+    members.push(2)?;
+    Ok(Made {
+        number: 0,
+        epoch: 4,
+        members,
+        limits: Limits {
+            chunk_min: 1,
+            chunk_max: 1,
+            preemptions,
+        },
+    })
+}
+
+/// The head of an object that is placed by the key k.
+pub fn head(alloc: Global, name: &[u8]) -> Result<ObjectId, NameError> {
+    ObjectId::new(alloc, b"", b"k", name, HEAD)
+}
+
+/// A write of `text:x`.
+pub fn written(alloc: Global, name: &[u8], serial: u32) -> Result<Write, NameError> {
+    let id = head(alloc, name)?;
+    let bytes = Bytes::from_slice(alloc, b"x")?;
+    Ok(Write {
+        id: ReqId { client: 1, serial },
+        family: id.family,
+        op: Op::Full {
+            payload: Payload::Text { bytes },
+        },
+    })
+}
+
+/// The heads of the objects a and b.
+pub fn heads(alloc: Global) -> Result<Items<ObjectId>, NameError>
+    ensures { IfOk result (λ ids. Ascends ids) }
+{
+    let first = head(alloc, b"a")?;
+    let last = head(alloc, b"b")?;
+    let ids = in_order(alloc, first, last)?;
+    Ok(ids)
+}
+
+// Two positions, or the first alone where the other doesn't stand behind it.
+#[tactic(auto, using(crate::proofs::Few::few))]
+fn in_order(alloc: Global, first: ObjectId, last: ObjectId) -> Result<Items<ObjectId>, AllocError>
+    ensures { IfOk result (λ ids. Ascends ids) }
+{
+    let mut ids = Items::new(alloc);
+    let order = compare(&first, &last);
+    ids.push(first)?;
+    match order {
+        Ordering::Less => ids.push(last)?,
+        _ => {}
+    }
+    Ok(ids)
+}
+
+/// The head of the object b.
+#[tactic(auto, using(crate::proofs::Few::few))]
+pub fn last_head(alloc: Global) -> Result<Items<ObjectId>, NameError>
+    ensures { IfOk result (λ ids. Ascends ids) }
+{
+    let last = head(alloc, b"b")?;
+    let mut ids = Items::new(alloc);
+    ids.push(last)?;
+    Ok(ids)
+}
+
+// One entry, where that is of the range.
+fn entries_of(alloc: Global, range: &FamilyRange, entry: Entry) -> Result<Items<Entry>, AllocError>
+    ensures { IfOk result (λ entries. AreInRange range.now entries) }
+{
+    let mut entries = Items::new(alloc);
+    if !range.in_range(&entry.id.family) {
+        return Ok(entries);
+    }
+    entries.push(entry)?;
+    Ok(entries)
+}
+
+/// A member's map of a chunk of the first scrub: with one entry, where that is of the range.
+pub fn map_of(
+    alloc: Global,
+    osd: u32,
+    chunk: u64,
+    range: FamilyRange,
+    entry: Entry,
+) -> Result<ScrubMap, AllocError>
+    ensures { IfOk result (λ map. AreInRange map.range map.entries) }
+{
+    let entries = entries_of(alloc, &range, entry)?;
+    Ok(ScrubMap {
+        osd,
+        serial: 1,
+        chunk,
+        needed: 1,
+        applied: 2,
+        range,
+        entries,
+    })
+}

@@ -1,0 +1,5 @@
+//! Each file tests one topic.
+mod calls;
+mod scrubs;
+mod seen;
+mod steps;
