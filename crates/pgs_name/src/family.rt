@@ -93,7 +93,11 @@ impl Family {
 fn effective(key: Bytes, name: &Bytes) -> Result<Bytes, AllocError>
     ensures { IfOk result (λ k. k ≡ effective_key key name.now) }
 {
-    if key.is_empty() { name.clone() } else { Ok(key) }
+    if key.is_empty() {
+        name.clone()
+    } else {
+        Ok(key)
+    }
 }
 
 impl Clone for Family {

@@ -64,9 +64,9 @@ state_opened : (w : WorldState) (group serial : ℕ) → running w.past ≡ Some
 state_opened w group serial runs none =
     let chunk : Chunk = next_chunk w.made w.past serial (listed_now w) in
     let opened_at : (now : Option Chunk) → now ≡ None
-            → IsOpened w (record w { past = Open serial (listed_now w) (open_answered now chunk) ∷ w.past; done = dones.Open group (opening_said (Some serial) w) ∷ w.done }) chunk = λ now e.
-        subst (λ c. IsOpened w (record w { past = Open serial (listed_now w) (open_answered c chunk) ∷ w.past; done = dones.Open group (opening_said (Some serial) w) ∷ w.done }) chunk) (sym e)
-        (record { members = refl; made = refl; opens = refl; runs = runs; number = refl }) in
+    → IsOpened w (record w { past = Open serial (listed_now w) (open_answered now chunk) ∷ w.past; done = dones.Open group (opening_said (Some serial) w) ∷ w.done }) chunk = λ now e.
+    subst (λ c. IsOpened w (record w { past = Open serial (listed_now w) (open_answered c chunk) ∷ w.past; done = dones.Open group (opening_said (Some serial) w) ∷ w.done }) chunk) (sym e)
+    (record { members = refl; made = refl; opens = refl; runs = runs; number = refl }) in
     subst (λ now. IsOpened w (record (past_opened now w) { done = dones.Open group (opening_said now w) ∷ w.done }) chunk) (sym runs) (opened_at (open_chunk w.past) none)
 
 -- ---- each acting OSD gives its map
@@ -99,8 +99,8 @@ all_takes u chunk (osd ∷ osds) opens =
     let next : WorldState = record u { past = Take (length (past_in u.members osd)) map Taken ∷ u.past } in
     let rest : AreTaken next (all_taken next osds) chunk osds = all_takes next chunk osds opens in
     let here : is_some (taken next.past chunk.number osd) ≡ true =
-        ap (λ b. is_some (cond b (Some map) (taken u.past chunk.number osd)))
-        ((λ i. same_number chunk.number i && same_number osd i)) in
+    ap (λ b. is_some (cond b (Some map) (taken u.past chunk.number osd)))
+    ((λ i. same_number chunk.number i && same_number osd i)) in
     subst (λ x. AreTaken u (all_taken x osds) chunk (osd ∷ osds)) (sym (take_step u osd chunk opens)) (record {
       members = rest.members;
       made = rest.made;
@@ -187,12 +187,12 @@ onward w group serial runs none =
     let t : AreTaken u v chunk w.made.members = all_takes u chunk w.made.members o.opens in
     let some : (chunk.number == 0) ≡ false = grind (arith, nat_tests) in
     let d : IsDone v (chunk_done w group) chunk =
-        state_closed v group chunk t.opens (t.number ∙ o.number) some
-        (subst (λ made. AllByRecursion (λ osd. is_some (taken v.past chunk.number osd) ≡ true) made.members) (sym (t.made ∙ o.made)) t.each) in
+    state_closed v group chunk t.opens (t.number ∙ o.number) some
+    (subst (λ made. AllByRecursion (λ osd. is_some (taken v.past chunk.number osd) ≡ true) made.members) (sym (t.made ∙ o.made)) t.each) in
     let limit : ℕ = limit_now w.made w.past in
     let from : Bound = start w.past in
     let whole : chunk.range ≡ chunk_of limit (held w) from =
-        ap (λ c. chunk_of limit (listed_beside c w) from) none ∙ chunk_early limit from (held w) (held_ascends w) in
+    ap (λ c. chunk_of limit (listed_beside c w) from) none ∙ chunk_early limit from (held w) (held_ascends w) in
     let members : (chunk_done w group).members ≡ w.members = d.members ∙ t.members ∙ o.members in
     let made : (chunk_done w group).made ≡ w.made = d.made ∙ t.made ∙ o.made in
     record {
@@ -204,8 +204,8 @@ onward w group serial runs none =
           let ends : chunk.range.to ≡ bound_at (next_position limit (from_start from (held w))) = ap (λ r. r.to) whole in
           let less = fewer_left limit (held w) from (next_position limit (from_start from (held w))) (held_ascends w) refl (ap is_greatest (sym ends) ∙ last) in
           let left : remaining (chunk_done w group) ≡ length (from_start (bound_at (next_position limit (from_start from (held w)))) (held w)) =
-              (λ i. length (from_start (d.starts i) (held (record { made = made i; past = (chunk_done w group).past; members = members i; done = (chunk_done w group).done }))))
-              ∙ ap (λ b. length (from_start b (held w))) ends in
+          (λ i. length (from_start (d.starts i) (held (record { made = made i; past = (chunk_done w group).past; members = members i; done = (chunk_done w group).done }))))
+          ∙ ap (λ b. length (from_start b (held w))) ends in
           subst (λ n. n < remaining w) (sym left) less;
     }
 
@@ -351,9 +351,9 @@ idle_walked (suc n) w group none enough =
       | Some serial ↦ λ e.
           let on = onward w group serial e none in
           idle_walked n (chunk_done w group) group on.none (λ other r.
-              let a : remaining (chunk_done w group) < remaining w = on.fewer other r in
-              let b : remaining w < suc n = enough serial e in
-              omega (arith, a, b))
+          let a : remaining (chunk_done w group) < remaining w = on.fewer other r in
+          let b : remaining w < suc n = enough serial e in
+          omega (arith, a, b))
     ]) refl
 
 scrub_sound : (answer : BeginAnswer) (w : WorldState) (group : ℕ) → IsSound w → IsSound (scrubbed answer w group)
@@ -374,8 +374,8 @@ scrub_idle : (answer : BeginAnswer) (w v : WorldState) (group : ℕ) → (serial
 scrub_idle (begins.Busy n) w v group serial e none = absurd cc
 scrub_idle (begins.Began n) w v group serial e none =
     idle_walked (suc (length (held v))) v group none (λ other r.
-        let shorter : remaining v ≤ length (held v) = filter_shorter (λ id. is_at_most (start v.past) id.family) (held v) in
-        omega (arith, shorter))
+    let shorter : remaining v ≤ length (held v) = filter_shorter (λ id. is_at_most (start v.past) id.family) (held v) in
+    omega (arith, shorter))
 
 -- a sweep that begins where no scrub runs leaves none
 pub idle_swept : (w : WorldState) (group : ℕ) (kind : Kind) → IsSound w → running w.past ≡ None → running (swept w group kind).past ≡ None

@@ -20,12 +20,7 @@ pub fn family_of(object: &Object) -> Result<Family, AllocError>
 }
 
 /// The write that a line asks for.
-pub fn write_of(
-    client: u32,
-    serial: u32,
-    object: &Object,
-    op: &Op,
-) -> Result<Write, AllocError>
+pub fn write_of(client: u32, serial: u32, object: &Object, op: &Op) -> Result<Write, AllocError>
     ensures { IfOk result (λ write. write ≡ basics.write_of client serial object.now op.now) }
 {
     let family = family_of(object)?;

@@ -91,9 +91,7 @@ impl World {
         ensures in_range { IfOk result (λ m. AreInRange m.range m.entries) }
     {
         let tables = Tables::make(self.alloc)?;
-        let entries = self
-            .shards
-            .entries(self.alloc, &tables, osd, &chunk.range)?;
+        let entries = self.shards.entries(self.alloc, &tables, osd, &chunk.range)?;
         Ok(ScrubMap {
             osd,
             serial: chunk.serial,
