@@ -2,6 +2,4 @@
 mod listings;
 mod logs;
 mod making;
-mod orders;
-mod ranges;
 mod writes;

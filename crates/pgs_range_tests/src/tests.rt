@@ -113,3 +113,29 @@ fn a_position_gives_its_family(rt: HostRuntime) -> Result<(), Fail> {
     assert!(rt; family.key() == b"k".as_slice());
     Ok(())
 }
+
+fn hash_of(alloc: Global, space: &[u8], key: &[u8], name: &[u8]) -> Result<u32, AllocError> {
+    let space = Bytes::from_slice(alloc, space)?;
+    let key = Bytes::from_slice(alloc, key)?;
+    let name = Bytes::from_slice(alloc, name)?;
+    Ok(Family::new(space, key, name)?.hash())
+}
+
+// The words were computed by the published algorithm of CRC-32C, without its last inversion.
+#[test]
+fn hashes(rt: HostRuntime) -> Result<(), Fail> {
+    let alloc = rt.alloc();
+    assert_eq!(rt; hash_of(alloc, b"", b"", b"a")?, 0x458F_6330);
+    assert_eq!(rt; hash_of(alloc, b"s", b"", b"a")?, 0x6827_71AC);
+    assert_eq!(rt; hash_of(alloc, b"", b"b", b"a")?, 0x56DF_90C4);
+    assert_eq!(rt; hash_of(alloc, b"", b"", b"b")?, 0x56DF_90C4);
+    Ok(())
+}
+
+#[test]
+fn bits_in_the_other_order(rt: HostRuntime) -> Result<(), Fail> {
+    assert_eq!(rt; reverse_bits(1), 0x8000_0000);
+    assert_eq!(rt; reverse_bits(0x1234_5678), 0x1E6A_2C48);
+    assert_eq!(rt; reverse_bits(0xFFFF_FFFE), 0x7FFF_FFFF);
+    Ok(())
+}

@@ -3,4 +3,3 @@ mod copies;
 mod digests;
 mod ends;
 mod names;
-mod runs;

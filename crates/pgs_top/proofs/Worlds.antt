@@ -3,7 +3,6 @@ use Rattle.std.proofs.Common.{◌≡◌, ℕ, true, List, [], ◌∷◌, Option,
 use Rattle.std.specs.Prelude.{is_some, slice_get}
 use Rattle.pgs_bytes.proofs.Facts.{true_false}
 use Rattle.pgs_words.specs.Forms.{has_some}
-use Rattle.pgs_history.specs.Scrubs.{running}
 use Rattle.pgs_lines.specs.declared.basic.Basic.TheVariants as basics
 use Rattle.pgs_lines.specs.declared.step.Step.{Step}
 use Rattle.pgs_lines.specs.declared.step.Step.TheVariants as steps
@@ -65,6 +64,3 @@ has_primary settings group (other ∷ more) is = absurd is
 
 pub made_primary : (made wanted : Made) → made ≡ wanted → is_some (primary wanted) ≡ true → is_some (primary made) ≡ true
 made_primary made wanted e some = ap (λ m. is_some (primary m)) e ∙ some
-
-pub opening_idle : (world : WorldState) (made : Made) → world ≡ opening made → running world.past ≡ None
-opening_idle world made e = ap (λ w. running w.past) e

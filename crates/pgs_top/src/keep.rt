@@ -43,7 +43,7 @@ fn made_of(alloc: Global, settings: Settings, group: &Group) -> Result<Made, All
 }
 
 // The world of a declared group after all steps.
-#[tactic(auto, using(crate::proofs::Worlds::made_primary, crate::proofs::Worlds::opening_idle))]
+#[tactic(auto, using(crate::proofs::Worlds::made_primary))]
 fn world_of(
     alloc: Global,
     settings: Settings,

@@ -1,5 +1,5 @@
 -- Between the steps of a script no scrub runs.
-use Rattle.std.proofs.Common.{◌≡◌, ℕ, zero, suc, nat_lt, Bool, true, false, cond, List, [], ◌∷◌, None, refl, ◌∙◌}
+use Rattle.std.proofs.Common.{◌≡◌, ℕ, zero, suc, nat_lt, Bool, true, false, cond, List, [], ◌∷◌, None, refl, ap, ◌∙◌}
 use Rattle.pgs_request.specs.declared.req_id.ReqId.{ReqId}
 use Rattle.pgs_request.specs.declared.answers.CollectAnswer.{CollectAnswer}
 use Rattle.pgs_request.specs.declared.answers.CollectAnswer.TheVariants.{Unknown, NotYet, Acked}
@@ -15,7 +15,8 @@ use Rattle.pgs_history.specs.declared.event.Event.{Event}
 use Rattle.pgs_history.specs.declared.event.Event.TheVariants.{Collect, Pull, Tell}
 use Rattle.pgs_history.proofs.Fates.{fated}
 use Rattle.pgs_history.proofs.Rows.{tiled}
-use Rattle.pgs_world.specs.State.{WorldState}
+use Rattle.pgs_history.specs.declared.made.Made.{Made}
+use Rattle.pgs_world.specs.State.{WorldState, opening}
 use Rattle.pgs_world.specs.Basics.{id_of, after_basic, after_pulling, after_telling, after_applying, applied_by}
 use Rattle.pgs_world.specs.Steps.{waiting, applied_times, applied_all, member_settled, settled, after_step}
 use Rattle.pgs_world.specs.Sound.{IsSound}
@@ -53,6 +54,12 @@ basic_runs w (basics.Pull group osd) = pull_runs w.past osd
 basic_runs w (basics.Apply group osd) = refl
 basic_runs w (basics.Tell group osd) = tell_runs w.past osd (applied_by w osd)
 basic_runs w (basics.Damage group osd object snap damage) = refl
+
+pub basic_idle : (w v : WorldState) (basic : Basic) → v ≡ after_basic w basic → running w.past ≡ None → running v.past ≡ None
+basic_idle w v basic e idle = ap (λ x. running x.past) e ∙ basic_runs w basic ∙ idle
+
+pub opening_idle : (w : WorldState) (made : Made) → w ≡ opening made → running w.past ≡ None
+opening_idle w made e = ap (λ x. running x.past) e
 
 times_runs : (n : ℕ) (w : WorldState) (group osd : ℕ) → running (applied_times n w group osd).past ≡ running w.past
 times_runs zero w group osd = refl

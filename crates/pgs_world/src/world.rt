@@ -46,10 +46,12 @@ impl Model for World {
 
 impl World {
     /// Before the first step.
+    #[tactic(auto, using(crate::proofs::Idle::opening_idle))]
     pub fn new(alloc: Global, made: Made) -> Result<World, AllocError>
         requires some { is_some (primary made) ≡ true }
         ensures world { IfOk result (λ w. w ≡ opening made) }
         ensures sound { IfOk result (λ w. IsSound w) }
+        ensures idle { IfOk result (λ w. running w.past ≡ None) }
     {
         let world = World::begin(alloc, made)?;
         Ok(world)
@@ -188,12 +190,13 @@ impl World {
     }
 
     /// Does a single step, and keeps it with its answer. Where memory runs out a part of it may be done.
-    #[tactic(auto, using(crate::proofs::Sound::sound_basic))]
+    #[tactic(auto, using(crate::proofs::Sound::sound_basic, crate::proofs::Idle::basic_idle))]
     pub fn basic(&mut self, basic: &Basic) -> Result<(), AllocError>
         requires sound { IsSound self.old }
         requires named { IsNamed self.old.made basic.now }
         ensures after { OnOk result (self.new ≡ basics.after_basic self.old basic.now) }
         ensures sound { OnOk result (IsSound self.new) }
+        ensures idle { OnOk result (running self.old.past ≡ None → running self.new.past ≡ None) }
     {
         self.do_basic(basic)?;
         Ok(())

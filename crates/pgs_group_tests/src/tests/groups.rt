@@ -1,4 +1,4 @@
-use crate::tests::making::{REQUEST, family, made, write};
+use crate::tests::making::{REQUEST, made, write};
 use pgs_group::{Answer, Counts, Group, Step};
 use pgs_request::{CollectAnswer, Declined, Version, WriteAnswer};
 use std::alloc::{AllocError, Global};
@@ -63,24 +63,18 @@ fn pulled(alloc: Global) -> Result<usize, AllocError> {
     }
 }
 
-// How many bytes the written object has, how many objects there are, how many members, and how many events.
-fn seen(alloc: Global) -> Result<(usize, usize, usize, usize), AllocError> {
+// How many members a group has, and how many events.
+fn seen(alloc: Global) -> Result<(usize, usize), AllocError> {
     let group = written(alloc)?;
-    let family = family(alloc)?;
-    let size = match group.clean_head(&family) {
-        Some(copy) => copy.bytes.len(),
-        None => 0,
-    };
-    let families = group.families().len();
     let members = group.made().members.len();
-    Ok((size, families, members, group.into_events().len()))
+    Ok((members, group.into_events().len()))
 }
 
 #[test]
 fn what_a_group_shows(rt: HostRuntime) -> Result<(), Fail> {
     let alloc = rt.alloc();
     assert_eq!(rt; pulled(alloc)?, 1);
-    assert_eq!(rt; seen(alloc)?, (3, 1, 2, 1));
+    assert_eq!(rt; seen(alloc)?, (2, 1));
     Ok(())
 }
 

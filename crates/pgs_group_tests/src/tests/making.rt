@@ -1,4 +1,8 @@
+ghost use Rattle.std.specs.Prelude.{◌≡◌, true, is_some, IfOk};
+ghost use Rattle.pgs_history.specs.Answers.{primary};
+
 use pgs_bytes::Bytes;
+use pgs_chunk::Limits;
 use pgs_history::Made;
 use pgs_name::Family;
 use pgs_op::Write;
@@ -7,7 +11,9 @@ use sqlite_items::Items;
 use std::alloc::{AllocError, Global};
 
 // A group of the OSDs 2 and 0.
-pub fn made(alloc: Global) -> Result<Made, AllocError> {
+pub fn made(alloc: Global) -> Result<Made, AllocError>
+    ensures { IfOk result (λ made. is_some (primary made) ≡ true) }
+{
     let mut members = Items::new(alloc);
     members.push(2)?;
     members.push(0)?;
@@ -15,16 +21,13 @@ pub fn made(alloc: Global) -> Result<Made, AllocError> {
         number: 0,
         epoch: 4,
         members,
+        limits: Limits::usual(),
     })
 }
 
 pub fn family(alloc: Global) -> Result<Family, AllocError> {
     let name = Bytes::from_slice(alloc, b"a")?;
-    Ok(Family {
-        space: Bytes::new(alloc),
-        key: Bytes::new(alloc),
-        name,
-    })
+    Family::new(Bytes::new(alloc), Bytes::new(alloc), name)
 }
 
 pub const REQUEST: ReqId = ReqId {

@@ -22,6 +22,6 @@ fn done(alloc: Global) -> Result<usize, AllocError> {
 
 #[test]
 fn steps_of_a_world(rt: HostRuntime) -> Result<(), Fail> {
-    assert_eq!(rt; done(rt.alloc())?, 14);
+    assert_eq!(rt; done(rt.alloc())?, 16);
     Ok(())
 }

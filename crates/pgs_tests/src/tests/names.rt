@@ -1,4 +1,5 @@
 use pgs_name::{HEAD, NameError, ObjectId, Part};
+use std::alloc::Global;
 use std::test::Fail;
 
 #[test]
@@ -89,13 +90,17 @@ fn refusals_in_order(rt: HostRuntime) -> Result<(), Fail> {
     Ok(())
 }
 
+// The key that a name is placed by.
+fn key_of(alloc: Global, key: &[u8]) -> Result<usize, NameError> {
+    let id = ObjectId::new(alloc, b"-s", key, b"a", HEAD)?;
+    Ok(id.family()?.kept_key().len())
+}
+
 #[test]
 fn a_key_that_is_the_name_is_kept_as_the_empty_key(rt: HostRuntime) -> Result<(), Fail> {
-    let id = ObjectId::new(rt.alloc(), b"-s", b"a", b"a", HEAD)?;
-    let family = id.family()?;
-    assert_eq!(rt; family.space.as_slice(), b"-s".as_slice());
-    assert_eq!(rt; family.key.as_slice(), b"".as_slice());
-    assert_eq!(rt; family.name.as_slice(), b"a".as_slice());
-    assert_eq!(rt; id.snap, HEAD);
+    let alloc = rt.alloc();
+    assert_eq!(rt; key_of(alloc, b"a")?, 0);
+    assert_eq!(rt; key_of(alloc, b"")?, 0);
+    assert_eq!(rt; key_of(alloc, b"bc")?, 2);
     Ok(())
 }

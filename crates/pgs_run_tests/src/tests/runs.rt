@@ -1,4 +1,5 @@
 use pgs_bytes::Bytes;
+use pgs_chunk::Settings;
 use pgs_edge::{MemSink, MemSource};
 use pgs_script::{Declarations, parse_steps};
 use pgs_top::{Status, replay, top};
@@ -18,6 +19,7 @@ collect 0 1 2 : acked 4'1\nwrite 1 2 - - b - full text:x : repeat 4'1\n\
 damage 0 0 - - a head flip 1 1 : damaged\n\
 pull 0 5 : pulled 1 1\napply 0 5 : not-yet 1\ntell 0 5 : told 1\n\
 pull 0 0 : pulled 1 1\napply 0 0 : not-yet 1\ntell 0 0 : told 1\n\
+begin 0 deep : began 0.1\nopen 0 : opened 1 from min to max version 1 limit 25\n\
 close 0 : closed 1 findings 1 snaps 0 completes\nend\n";
 
 // How a script ends, by `top`, with ends that take so many bytes a call.
@@ -95,7 +97,7 @@ fn other_words_than_replay(rt: HostRuntime) -> Result<(), Fail> {
     let no_words = Vec::new(alloc);
     let ended = top(alloc, no_words.as_slice(), &mut source, &mut sink);
     assert_eq!(rt; ended.status.number(), 2);
-    let ended = replay(alloc, &mut source, &mut sink);
+    let ended = replay(alloc, Settings::usual(), &mut source, &mut sink);
     assert_eq!(rt; ended.status.number(), 0);
     assert!(rt; ended.kept.world.is_none());
     assert!(rt; parse_steps(alloc, b"end\n")?.over);

@@ -1,0 +1,3 @@
+//! Each file tests one topic.
+mod runs;
+mod settings;
