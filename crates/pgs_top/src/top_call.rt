@@ -43,7 +43,7 @@ pub fn top<S: Source, K: Sink>(
     ensures orderly { OfWorld IsOrderly result.kept.world }
     // Members told of no more than they applied, and applied no more than they pulled of the log, in its order.
     ensures in_step { OfWorld AreInStep result.kept.world }
-    // No scrub was left incomplete; each chunk was closed once; and the closed chunks of each scrub lie in a row, those of a
+    // No scrub was left running; each chunk was closed once; and the closed chunks of each scrub lie in a row, those of a
     // complete one from below all families to above them, so that they hold each position once.
     ensures scrubbed { OfWorld AreScrubbed result.kept.world }
     // A fault comes only where the count of that end rose.
