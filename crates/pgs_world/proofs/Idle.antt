@@ -82,4 +82,4 @@ idle_step w (steps.Sweep group kind) s idle =
     idle_swept (settled w group w.made.members) group kind (sound_settled w group w.made.members s) (settled_runs w group w.made.members ∙ idle)
 
 pub scrubbed_where : (w : WorldState) → IsSound w → running w.past ≡ None → AreScrubbed w
-scrubbed_where w s idle = record { idle = idle; fates = fated w.made w.past s.in_step.legal; tiles = tiled w.made w.past s.in_step.legal }
+scrubbed_where w s idle = record { idle = idle; fates = fated w.made w.past s.in_step.legal; tiles = tiled w.made w.past s.in_step.legal; cited = s.cited }

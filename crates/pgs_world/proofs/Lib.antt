@@ -2,6 +2,7 @@
 pub mod Items
 pub mod InStep
 pub mod Acks
+pub mod Cites
 pub mod Scrubs
 pub mod Walks
 pub mod Sound

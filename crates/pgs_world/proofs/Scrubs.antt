@@ -32,12 +32,14 @@ use Rattle.pgs_history.proofs.Ids.{numbered, distinct}
 use Rattle.pgs_shard.specs.Listed.{positions}
 use Rattle.pgs_shard.specs.Stores.{applied}
 use Rattle.pgs_shard.proofs.Positions.{are_positions}
-use Rattle.pgs_shards.specs.Members.{past_in}
+use Rattle.pgs_shards.specs.Members.{Member, past_in}
 use Rattle.pgs_world.specs.State.{WorldState}
 use Rattle.pgs_world.specs.Scrubs.{past_of, held, listed_beside, listed_now, past_opened, opening_said, after_beginning, after_opening, taking, after_taking, all_taken, after_closing, chunk_done}
 use Rattle.pgs_world.specs.Counts.{AreInStep, IsInStep}
 use Rattle.pgs_world.specs.Acknowledged.{StillHolds}
+use Rattle.pgs_world.specs.Cited.{AreCited}
 use Rattle.pgs_world.specs.Sound.{IsSound}
+use Rattle.pgs_world.proofs.Cites.{now_cited}
 use Rattle.pgs_world.proofs.Acks.{Grows, acks_grow}
 
 -- ---- what is listed is in order
@@ -98,44 +100,47 @@ grows_quiet w past done q = record {
   applies = λ osd. omega arith;
 }
 
-sound_of : (w : WorldState) (past : List Event) (done : List Done) → IsLegal w.made past → AreQuiet w.past past → IsSound w
+sound_of : (w : WorldState) (past : List Event) (done : List Done) → IsLegal w.made past → AreQuiet w.past past → IsSound w → AreCited w.members past
     → AllByRecursion (StillHolds (record w { past = past; done = done })) done → IsSound (record w { past = past; done = done })
-sound_of w past done legal q s acks = record {
+sound_of w past done legal q s cited acks = record {
   in_step = in_quiet w past done legal q s.in_step;
   orderly = record { items = numbered w.made past legal; requests = distinct w.made past legal };
   acknowledged = acks;
+  cited = cited;
   some = s.some;
 }
 
 -- with nothing done that is told
-sound_same : (w : WorldState) (past : List Event) → IsLegal w.made past → AreQuiet w.past past → IsSound w → IsSound (record w { past = past; done = w.done })
-sound_same w past legal q s =
-    sound_of w past w.done legal q s
+sound_same : (w : WorldState) (past : List Event) → IsLegal w.made past → AreQuiet w.past past → IsSound w → AreCited w.members past
+    → IsSound (record w { past = past; done = w.done })
+sound_same w past legal q s cited =
+    sound_of w past w.done legal q s cited
     (acks_grow w (record w { past = past; done = w.done }) (in_quiet w past w.done legal q s.in_step) (grows_quiet w past w.done q) s.acknowledged)
 
-sound_with : (w : WorldState) (past : List Event) (done : Done) → IsLegal w.made past → AreQuiet w.past past → IsSound w → StillHolds (record w { past = past; done = done ∷ w.done }) done
-    → IsSound (record w { past = past; done = done ∷ w.done })
-sound_with w past done legal q s holds =
+sound_with : (w : WorldState) (past : List Event) (done : Done) → IsLegal w.made past → AreQuiet w.past past → IsSound w → AreCited w.members past
+    → StillHolds (record w { past = past; done = done ∷ w.done }) done → IsSound (record w { past = past; done = done ∷ w.done })
+sound_with w past done legal q s cited holds =
     let next : WorldState = record w { past = past; done = done ∷ w.done } in
-    sound_of w past (done ∷ w.done) legal q s (holds, acks_grow w next (in_quiet w past (done ∷ w.done) legal q s.in_step) (grows_quiet w past (done ∷ w.done) q) s.acknowledged)
+    sound_of w past (done ∷ w.done) legal q s cited (holds, acks_grow w next (in_quiet w past (done ∷ w.done) legal q s.in_step) (grows_quiet w past (done ∷ w.done) q) s.acknowledged)
 
 -- ---- begin, open, take, close
 
 pub sound_begin : (w : WorldState) (group : ℕ) (kind : Kind) → IsSound w → IsSound (after_beginning w group kind)
-sound_begin w group kind s = sound_with w _ _ (refl, s.in_step.legal) (record { pulls = λ osd. refl; tells = λ osd. refl; items = refl; requests = refl }) s tt
+sound_begin w group kind s = sound_with w _ _ (refl, s.in_step.legal) (record { pulls = λ osd. refl; tells = λ osd. refl; items = refl; requests = refl }) s (tt, s.cited) tt
 
 open_sound : (w : WorldState) (group : ℕ) (now : Option ℕ) → running w.past ≡ now → IsSound w
     → IsSound (record (past_opened now w) { done = dones.Open group (opening_said now w) ∷ w.done })
-open_sound w group None e s = sound_with w w.past _ s.in_step.legal (record { pulls = λ osd. refl; tells = λ osd. refl; items = refl; requests = refl }) s tt
+open_sound w group None e s = sound_with w w.past _ s.in_step.legal (record { pulls = λ osd. refl; tells = λ osd. refl; items = refl; requests = refl }) s s.cited tt
 open_sound w group (Some serial) e s =
-    sound_with w _ _ ((e, now_ascends w, refl), s.in_step.legal) (record { pulls = λ osd. refl; tells = λ osd. refl; items = refl; requests = refl }) s tt
+    sound_with w _ _ ((e, now_ascends w, refl), s.in_step.legal) (record { pulls = λ osd. refl; tells = λ osd. refl; items = refl; requests = refl }) s (tt, s.cited) tt
 
 pub sound_open : (w : WorldState) (group : ℕ) → IsSound w → IsSound (after_opening w group)
 sound_open w group s = open_sound w group (running w.past) refl s
 
 take_sound : (w : WorldState) (osd : ℕ) (now : Option Chunk) → IsSound w → IsSound (taking now w osd)
 take_sound w osd None s = s
-take_sound w osd (Some chunk) s = sound_same w _ (refl, s.in_step.legal) (record { pulls = λ q. refl; tells = λ q. refl; items = refl; requests = refl }) s
+take_sound w osd (Some chunk) s =
+    sound_same w _ (refl, s.in_step.legal) (record { pulls = λ q. refl; tells = λ q. refl; items = refl; requests = refl }) s (now_cited w osd chunk, s.cited)
 
 pub sound_take : (w : WorldState) (osd : ℕ) → IsSound w → IsSound (after_taking w osd)
 sound_take w osd s = take_sound w osd (open_chunk w.past) s
@@ -150,9 +155,16 @@ closed_quiet past chunk closes.ClosedBefore = record { pulls = λ q. refl; tells
 closed_quiet past chunk (closes.NotYet osd) = record { pulls = λ q. refl; tells = λ q. refl; items = refl; requests = refl }
 closed_quiet past chunk (closes.Closed findings completes) = record { pulls = λ q. refl; tells = λ q. refl; items = refl; requests = refl }
 
+closed_cited : (members : List Member) (past : List Event) (chunk : ℕ) (answer : CloseAnswer) → AreCited members past → AreCited members (after_closed past chunk answer)
+closed_cited members past chunk closes.NoChunk h = (tt, h)
+closed_cited members past chunk closes.ClosedBefore h = (tt, h)
+closed_cited members past chunk (closes.NotYet osd) h = h
+closed_cited members past chunk (closes.Closed findings completes) h = (tt, h)
+
 pub sound_close : (w : WorldState) (group : ℕ) → IsSound w → IsSound (after_closing w group)
 sound_close w group s =
-    sound_with w _ _ (legal_close w.made w.past (opened w.past) s.in_step.legal) (closed_quiet w.past (opened w.past) (close_answer w.made w.past (opened w.past))) s tt
+    sound_with w _ _ (legal_close w.made w.past (opened w.past) s.in_step.legal) (closed_quiet w.past (opened w.past) (close_answer w.made w.past (opened w.past))) s
+    (closed_cited w.members w.past (opened w.past) (close_answer w.made w.past (opened w.past)) s.cited) tt
 
 -- ---- what the group was made with stays
 

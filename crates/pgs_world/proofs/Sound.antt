@@ -16,42 +16,47 @@ use Rattle.pgs_world.specs.Steps.{waiting, applied_times, applied_all, member_se
 use Rattle.pgs_world.specs.Counts.{AreInStep}
 use Rattle.pgs_world.specs.Acknowledged.{StillHolds}
 use Rattle.pgs_world.specs.Sound.{IsSound}
+use Rattle.pgs_world.specs.Cited.{AreCited}
+use Rattle.pgs_world.proofs.Cites.{cited_more, cited_apply, cited_pull, cited_tell, cited_collect}
 use Rattle.pgs_world.proofs.Walks.{sound_swept}
 use Rattle.pgs_world.proofs.InStep.{in_write, in_collect, in_pull, in_tell, in_apply, in_damage, in_opening}
 use Rattle.pgs_world.proofs.Acks.{Grows, acks_grow, grows_write, grows_collect, grows_pull, grows_tell, grows_apply, grows_damage, collect_holds}
 
 -- one thing more was done
-kept_sound : (a b : WorldState) (done : Done) → IsSound a → AreInStep b → Grows a b → b.done ≡ done ∷ a.done → StillHolds b done → IsSound b
-kept_sound a b done sound in_step grows is holds = record {
+kept_sound : (a b : WorldState) (done : Done) → IsSound a → AreInStep b → Grows a b → b.done ≡ done ∷ a.done → StillHolds b done → AreCited b.members b.past → IsSound b
+kept_sound a b done sound in_step grows is holds cited = record {
   in_step = in_step;
   orderly = record { items = numbered b.made b.past in_step.legal; requests = distinct b.made b.past in_step.legal };
   acknowledged = subst (AllByRecursion (StillHolds b)) (sym is) (holds, acks_grow a b in_step grows sound.acknowledged);
+  cited = cited;
   some = ap (λ made. is_some (primary made)) grows.same ∙ sound.some;
 }
 
 sound_applying : (w : WorldState) (group osd : ℕ) → IsSound w → IsSound (after_applying w group osd)
-sound_applying w group osd s = kept_sound w (after_applying w group osd) _ s (in_apply w group osd s.in_step) (grows_apply w group osd) refl tt
+sound_applying w group osd s = kept_sound w (after_applying w group osd) _ s (in_apply w group osd s.in_step) (grows_apply w group osd) refl tt (cited_apply w group osd s.cited)
 
 sound_pulling : (w : WorldState) (group osd : ℕ) → IsSound w → IsSound (after_pulling w group osd)
-sound_pulling w group osd s = kept_sound w (after_pulling w group osd) _ s (in_pull w group osd s.in_step) (grows_pull w group osd) refl tt
+sound_pulling w group osd s = kept_sound w (after_pulling w group osd) _ s (in_pull w group osd s.in_step) (grows_pull w group osd) refl tt (cited_pull w group osd s.cited)
 
 sound_telling : (w : WorldState) (group osd : ℕ) → IsSound w → IsSound (after_telling w group osd)
-sound_telling w group osd s = kept_sound w (after_telling w group osd) _ s (in_tell w group osd s.in_step) (grows_tell w group osd) refl tt
+sound_telling w group osd s = kept_sound w (after_telling w group osd) _ s (in_tell w group osd s.in_step) (grows_tell w group osd) refl tt (cited_tell w group osd s.cited)
 
 pub sound_basic : (w : WorldState) (basic : Basic) → IsSound w → IsSound (after_basic w basic)
 sound_basic w (basics.Write client serial object op) s =
     let after = in_write w client serial object op s.in_step in
-    kept_sound w (after_write w client serial object op) _ s after (grows_write w client serial object op after) refl tt
+    kept_sound w (after_write w client serial object op) _ s after (grows_write w client serial object op after) refl tt (tt, s.cited)
 sound_basic w (basics.Collect group client serial) s =
     let after = in_collect w group client serial s.in_step in
     kept_sound w (after_collecting w group client serial) _ s after (grows_collect w group client serial) refl
     (collect_holds w group client serial (collect_answer w.made w.past (id_of client serial)) s.in_step after refl)
+    (cited_collect w.members w.past (id_of client serial) (collect_answer w.made w.past (id_of client serial)) s.cited)
 sound_basic w (basics.Pull group osd) s = sound_pulling w group osd s
 sound_basic w (basics.Apply group osd) s = sound_applying w group osd s
 sound_basic w (basics.Tell group osd) s = sound_telling w group osd s
 sound_basic w (basics.Damage group osd object snap damage) s =
     kept_sound w (after_damaging w group osd object snap damage) _ s (in_damage w group osd object snap damage s.in_step)
     (grows_damage w osd _ (family_of object) (snap_of snap) (damage_of damage)) refl tt
+    (cited_more w.members osd _ w.past s.cited)
 
 sound_times : (n : ℕ) (w : WorldState) (group osd : ℕ) → IsSound w → IsSound (applied_times n w group osd)
 sound_times zero w group osd s = s
@@ -80,7 +85,7 @@ sound_steps w [] s = s
 sound_steps w (step ∷ script) s = sound_steps (after_step w step) script (sound_step w step s)
 
 pub sound_opening : (made : Made) → is_some (primary made) ≡ true → IsSound (opening made)
-sound_opening made some = record { in_step = in_opening made; orderly = record { items = tt; requests = tt }; acknowledged = tt; some = some }
+sound_opening made some = record { in_step = in_opening made; orderly = record { items = tt; requests = tt }; acknowledged = tt; cited = tt; some = some }
 
 pub opening_sound : (world : WorldState) (made : Made) → world ≡ opening made → is_some (primary made) ≡ true → IsSound world
 opening_sound world made is some = subst IsSound (sym is) (sound_opening made some)

@@ -5,5 +5,6 @@ pub mod Scrubs
 pub mod Steps
 pub mod Counts
 pub mod Acknowledged
+pub mod Cited
 pub mod Sound
 pub mod Scrubbed

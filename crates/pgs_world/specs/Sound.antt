@@ -3,11 +3,13 @@ use Rattle.std.specs.Prelude.{◌≡◌, true, is_some}
 use Rattle.pgs_history.specs.Answers.{primary}
 use Rattle.pgs_world.specs.State.{WorldState}
 use Rattle.pgs_world.specs.Counts.{AreInStep, IsOrderly}
+use Rattle.pgs_world.specs.Cited.{AreCited}
 use Rattle.pgs_world.specs.Acknowledged.{AreAcknowledged}
 
 pub record IsSound (w : WorldState) : Type 0 where
   pub in_step : AreInStep w
   pub orderly : IsOrderly w
   pub acknowledged : AreAcknowledged w
+  pub cited : AreCited w.members w.past
   -- there is a primary
   pub some : is_some (primary w.made) ≡ true

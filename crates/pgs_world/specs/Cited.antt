@@ -1,0 +1,28 @@
+-- Whose copies a map tells of.
+use Rattle.std.specs.Prelude.{ℕ, ◌≡◌, ◌≤◌, ◌-◌, List, length, drop}
+use Rattle.std.specs.List.{AllByRecursion}
+use Rattle.pgs_map.specs.declared.scrub_map.ScrubMap.{ScrubMap}
+use Rattle.pgs_history.specs.declared.event.Event.{Event}
+use Rattle.pgs_history.specs.declared.event.Event.TheVariants.{Take}
+use Rattle.pgs_shard.specs.Stores.{applied}
+use Rattle.pgs_shard.specs.declared.event.Event.{Event as ShardEvent}
+use Rattle.pgs_shards.specs.Members.{Member, past_in}
+use Rattle.pgs_shards.specs.Entries.{entries_in}
+
+-- a history as it was when it had so many events
+abbrev pub at_place : ℕ → List ShardEvent → List ShardEvent
+at_place place past = drop (length past - place) past
+
+-- A map has the entries of all copies of its range that its OSD stored at a place of its history, and the number that it had applied there.
+pub record IsCited (members : List Member) (place : ℕ) (map : ScrubMap) : Type 0 where
+  pub within : place ≤ length (past_in members map.osd)
+  pub entries : map.entries ≡ entries_in map.range (at_place place (past_in members map.osd))
+  pub applied_is : map.applied ≡ applied (at_place place (past_in members map.osd))
+
+abbrev pub Cites : List Member → Event → Type 0
+Cites members (Take place map answer) = IsCited members place map
+Cites members event = Unit {0}
+
+-- so does each map that a group was given
+abbrev pub AreCited : List Member → List Event → Type 0
+AreCited members past = AllByRecursion (Cites members) past
