@@ -1,2 +1,3 @@
--- What texts of bytes are made of.
+-- What texts of bytes are made of, and what edits leave of them.
 pub mod Texts
+pub mod Edits

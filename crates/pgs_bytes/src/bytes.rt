@@ -1,10 +1,11 @@
-ghost use Rattle.std.specs.Prelude.{◌≡◌, List, [], length, slice_set, ◌==◌, ◌<◌, Some, nat_eq, refl, IfOk};
+ghost use Rattle.std.specs.Prelude.{◌≡◌, List, [], length, slice_set, ◌==◌, ◌<◌, Some, nat_eq, refl, IfOk, OnOk, OnErr};
 ghost use Rattle.std.specs.Cmp.{partial_equiv_from_equiv};
 ghost use Rattle.std.specs.Cmp.Lexicographic.{pointwise, slice_cmp, nat_list_cmp_total, nat_list_eq_equiv, texts_po, texts_ties};
 ghost use Rattle.std.specs.Ordering.{nat_cmp};
 ghost use Rattle.std.specs.Hash as fed;
 ghost use Rattle.std.specs.Cmp.Rules.{hashing};
 ghost use Rattle.std.proofs.Common.{rules};
+ghost use Rattle.pgs_bytes.specs.Edits.{resized, written};
 
 use std::alloc::{AllocError, Global};
 use std::cmp::Ordering;
@@ -75,6 +76,30 @@ impl Bytes {
         ensures { self.new ≡ slice_set self.old at byte }
     {
         self.items[at] = byte;
+    }
+
+    /// Cuts it to a length, or fills it up to that with zero bytes.
+    pub fn resize(&mut self, len: usize) -> Result<(), AllocError>
+        ensures ok { OnOk result (self.new ≡ resized len self.old) }
+        ensures err { OnErr result (self.new ≡ self.old) }
+    {
+        self.items.resize(len, 0)
+    }
+
+    /// Puts a piece from a place on, over what is there and past the end. Up to the place it is filled up with zero bytes.
+    pub fn write(&mut self, at: u32, piece: &[u8]) -> Result<(), AllocError>
+        ensures ok { OnOk result (self.new ≡ written at piece.now self.old) }
+        ensures err { OnErr result (self.new ≡ self.old) }
+    {
+        let at = at as usize;
+        let end = at + piece.len();
+        if end <= self.items.len() {
+            self.items[at..end].copy_from_slice(piece);
+            return Ok(());
+        }
+        self.items.reserve(end - self.items.len())?;
+        self.items.resize(at, 0)?;
+        self.items.extend_from_slice(piece)
     }
 }
 

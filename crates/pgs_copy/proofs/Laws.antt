@@ -6,13 +6,14 @@ use Rattle.std.proofs.lemmas.Grind.{common_steps}
 use Rattle.pgs_copy.specs.declared.obj_copy.ObjCopy.{ObjCopy}
 use Rattle.pgs_copy.specs.declared.effect.Effect.{Effect}
 use Rattle.pgs_copy.specs.declared.damage.Damage.{Damage}
+use Rattle.pgs_name.specs.declared.object_id.TheConstants.{HEAD}
 use Rattle.pgs_copy.specs.Copies.{affected, after_effect, after_effects, damaged, after_damage, after_damages, flipped}
 
 -- families with the same copies are one
 pub same_copies : (f g : ℕ → Option ObjCopy) → ((q : ℕ) → f q ≡ g q) → f ≡ g
 same_copies f g h = λ i q. h q i
 
-pub after_effect-here : (snap : ℕ) (effect : Effect) (copies : ℕ → Option ObjCopy) → after_effect snap effect copies snap ≡ affected effect (copies snap)
+pub after_effect-here : (snap : ℕ) (effect : Effect) (copies : ℕ → Option ObjCopy) → after_effect snap effect copies snap ≡ affected effect (copies HEAD) (copies snap)
 after_effect-here snap effect copies = grind (arith, common_steps)
 
 pub after_effect-other : (snap : ℕ) (effect : Effect) (copies : ℕ → Option ObjCopy) (q : ℕ) → snap ≢ q → after_effect snap effect copies q ≡ copies q

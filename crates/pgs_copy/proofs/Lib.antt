@@ -1,2 +1,5 @@
 -- Laws of effects and damage.
 pub mod Laws
+pub mod PairLaws
+pub mod Places
+pub mod SizeLaws

@@ -1,8 +1,11 @@
 -- The copies of one family of an object are seen as a function from a snap to the copy there, if there is one.
-use Rattle.std.specs.Prelude.{ℕ, ◌==◌, nat_lt, List, [], ◌∷◌, length, Option, Some, None, slice_index, slice_set, bit_xor, if◌then◌else◌}
+use Rattle.std.specs.Prelude.{ℕ, ◌==◌, ◌+◌, nat_lt, List, [], ◌∷◌, length, Option, Some, None, option_map, slice_index, slice_set, bit_xor, if◌then◌else◌}
+use Rattle.pgs_bytes.specs.Edits.{resized, written}
+use Rattle.pgs_name.specs.declared.object_id.TheConstants.{HEAD}
+use Rattle.pgs_copy.specs.Pairs.{with_pair, without, pairs_size}
 use Rattle.pgs_copy.specs.declared.obj_copy.ObjCopy.{ObjCopy}
 use Rattle.pgs_copy.specs.declared.effect.Effect.{Effect}
-use Rattle.pgs_copy.specs.declared.effect.Effect.TheVariants.{Clear, SetData}
+use Rattle.pgs_copy.specs.declared.effect.Effect.TheVariants.{Clear, SetData, Write, Truncate, SetAttr, RmAttr, SetOmap, RmOmap, SetHeader, Clone, Remove, Install}
 use Rattle.pgs_copy.specs.declared.damage.Damage.{Damage}
 use Rattle.pgs_copy.specs.declared.damage.Damage.TheVariants.{Flip}
 
@@ -10,23 +13,55 @@ use Rattle.pgs_copy.specs.declared.damage.Damage.TheVariants.{Flip}
 abbrev pub no_copies : ℕ → Option ObjCopy
 no_copies = λ q. None
 
--- a copy with no data
+-- a copy with nothing in it
 abbrev pub empty_copy : ObjCopy
-empty_copy = record { bytes = [] }
+empty_copy = record { bytes = []; attrs = []; omap = []; header = [] }
 
 -- the copy, or an empty one where there is none
 abbrev pub copy_or_empty : Option ObjCopy → ObjCopy
 copy_or_empty None = empty_copy
 copy_or_empty (Some copy) = copy
 
--- what an effect leaves of the copy at its snap: `Clear` leaves an empty copy, and `SetData` puts its bytes in place of the copy's data
-abbrev pub affected : Effect → Option ObjCopy → Option ObjCopy
-affected Clear copy = Some empty_copy
-affected (SetData bytes) copy = Some (record (copy_or_empty copy) { bytes = bytes })
+-- the bytes of a copy: of its data, of the names and values of its attributes, of the keys and values of its omap, and of its header
+abbrev pub copy_bytes : ObjCopy → ℕ
+copy_bytes copy = pairs_size copy.attrs + pairs_size copy.omap + length copy.bytes + length copy.header
+
+-- the name of the attribute that holds the object info: `_`
+abbrev pub info_name : List ℕ
+info_name = 95 ∷ []
+
+-- the name of a head's attribute that holds the snapset: `snapset`
+abbrev pub snapset_name : List ℕ
+snapset_name = 115 ∷ 110 ∷ 97 ∷ 112 ∷ 115 ∷ 101 ∷ 116 ∷ []
+
+-- what an effect on one part of a copy leaves of the copy; the effects on a whole copy aren't meant
+abbrev pub edited : Effect → ObjCopy → ObjCopy
+edited (SetData bytes) copy = record copy { bytes = bytes }
+edited (Write at bytes) copy = record copy { bytes = written at bytes copy.bytes }
+edited (Truncate size) copy = record copy { bytes = resized size copy.bytes }
+edited (SetAttr name value) copy = record copy { attrs = with_pair name value copy.attrs }
+edited (RmAttr name) copy = record copy { attrs = without name copy.attrs }
+edited (SetOmap key value) copy = record copy { omap = with_pair key value copy.omap }
+edited (RmOmap key) copy = record copy { omap = without key copy.omap }
+edited (SetHeader bytes) copy = record copy { header = bytes }
+edited _ copy = copy
+
+-- a clone of a head: with its own object info, and without the snapset
+abbrev pub cloned : List ℕ → ObjCopy → ObjCopy
+cloned info head = record head { attrs = with_pair info_name info (without snapset_name head.attrs) }
+
+-- what an effect leaves of the copy at its snap, by the head that is stored beside it: an effect on one part makes an empty copy
+-- first where there is none
+abbrev pub affected : Effect → Option ObjCopy → Option ObjCopy → Option ObjCopy
+affected Clear head copy = Some empty_copy
+affected (Clone info) head copy = option_map (cloned info) head
+affected Remove head copy = None
+affected (Install whole) head copy = Some whole
+affected effect head copy = Some (edited effect (copy_or_empty copy))
 
 -- the copies after an effect on a snap: the copy there is what the effect leaves of it, and all others stay
 abbrev pub after_effect : ℕ → Effect → (ℕ → Option ObjCopy) → ℕ → Option ObjCopy
-after_effect snap effect copies q = if snap == q then affected effect (copies q) else copies q
+after_effect snap effect copies q = if snap == q then affected effect (copies HEAD) (copies q) else copies q
 
 -- the copies after effects in turn, the first effect first
 abbrev pub after_effects : List (ℕ × Effect) → (ℕ → Option ObjCopy) → ℕ → Option ObjCopy

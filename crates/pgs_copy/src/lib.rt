@@ -5,10 +5,13 @@ mod damage;
 mod damages;
 mod effect;
 mod effects;
+mod in_place;
 mod obj_copy;
+mod pairs;
 
 pub use damage::Damage;
 pub use damages::apply_damage;
 pub use effect::Effect;
 pub use effects::apply_effects;
 pub use obj_copy::ObjCopy;
+pub use pairs::Pairs;

@@ -7,6 +7,7 @@ use Rattle.pgs_bytes.proofs.Facts.{joined, true_false, true_or_false}
 use Rattle.pgs_name.specs.Families.{Family, same_family}
 use Rattle.pgs_name.specs.Positions.{same_position}
 use Rattle.pgs_name.specs.declared.object_id.ObjectId.{ObjectId}
+use Rattle.pgs_name.specs.declared.object_id.TheConstants.{HEAD}
 use Rattle.pgs_name.proofs.Families.{same_family_is, family_is_same}
 use Rattle.pgs_copy.specs.Copies.{after_effect, after_effects, damaged, affected as affected_copy}
 use Rattle.pgs_copy.specs.declared.damage.Damage.{Damage}
@@ -52,7 +53,7 @@ named_has family (e ∷ es) copies before id f old there =
       | inl s ↦ in_front id (at_snap family e.0) (with_named family es before) (at_same family e.0 id f s)
       | inr s ↦ still id (at_snap family e.0) (with_named family es before)
           (named_has family es (after_effect e.0 e.1 copies) before id f
-          (λ now. old (sym (ap (λ b. is_some (cond b (affected_copy e.1 (copies id.snap)) (copies id.snap))) s) ∙ now)) there)
+          (λ now. old (sym (ap (λ b. is_some (cond b (affected_copy e.1 (copies HEAD) (copies id.snap)) (copies id.snap))) s) ∙ now)) there)
     ]
 
 -- no position is lost where more are named

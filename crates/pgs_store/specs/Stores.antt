@@ -33,7 +33,7 @@ affected family effects stored f q = if same_family family f then after_effects 
 abbrev pub harmed : Family → ℕ → Damage → Stored → Stored
 harmed family snap damage stored f q = if same_family family f then after_damage snap damage (stored f) q else stored f q
 
--- the bytes that a copy holds: none where it isn't there
+-- the bytes of a copy's data: none where it isn't there
 abbrev pub copy_size : Option ObjCopy → ℕ
 copy_size None = 0
 copy_size (Some copy) = length copy.bytes

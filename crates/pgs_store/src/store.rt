@@ -54,16 +54,6 @@ impl Store {
         Ok(Some(ObjectId { family, snap }))
     }
 
-    // The copies of a family, as a map of its own.
-    fn copies(&self, alloc: Global, family: &Family) -> Result<BTreeMap<u64, ObjCopy>, AllocError>
-        ensures { IfOk result (λ copies. (q : ℕ) → get nat_cmp copies q ≡ stored self.now family.now q) }
-    {
-        match self.families.get(family) {
-            Some(copies) => copies.clone(),
-            None => Ok(BTreeMap::new(alloc)),
-        }
-    }
-
     // Puts a map in the place of the copies of a family.
     #[tactic(auto, using(crate::proofs::Puts::in_map_put))]
     fn put(&mut self, family: &Family, copies: BTreeMap<u64, ObjCopy>) -> Result<(), AllocError>
@@ -85,10 +75,13 @@ impl Store {
         ensures ok { OnOk result (AreSame (stored self.new) (affected family.now effects.now (stored self.old))) }
         ensures err { OnErr result (AreSame (stored self.new) (stored self.old)) }
     {
-        let mut copies = self.copies(alloc, family)?;
+        if let Some(copies) = self.families.get_mut(family) {
+            apply_effects(alloc, copies, effects)?;
+            return Ok(());
+        }
+        let mut copies = BTreeMap::new(alloc);
         apply_effects(alloc, &mut copies, effects)?;
-        self.put(family, copies)?;
-        Ok(())
+        self.put(family, copies)
     }
 
     /// Does damage to the copy at a snap of a family, if there is one.
@@ -102,9 +95,9 @@ impl Store {
         ensures ok { OnOk result (AreSame (stored self.new) (harmed family.now snap damage.now (stored self.old))) }
         ensures err { OnErr result (AreSame (stored self.new) (stored self.old)) }
     {
-        let mut copies = self.copies(alloc, family)?;
-        apply_damage(alloc, &mut copies, snap, damage)?;
-        self.put(family, copies)?;
+        if let Some(copies) = self.families.get_mut(family) {
+            apply_damage(alloc, copies, snap, damage)?;
+        }
         Ok(())
     }
 }

@@ -1,11 +1,15 @@
-use Rattle.std.specs.Ordering.{nat_cmp}
-use Rattle.std.specs.BTreeMap.{get}
+use Rattle.std.proofs.Common.{rules}
 use Rattle.pgs_copy.specs.Copies.{after_effects}
-use Rattle.pgs_store.specs.Kept.{stored}
-use Rattle.pgs_store.proofs.Puts.{put_seen}
+use Rattle.pgs_store.proofs.Puts.{changed_seen, unchanged_seen, on_err}
 use Rattle.pgs_store.proofs.store.Store.apply.Goals as goal
 
-pub returns-clause-ok : goal.returns-clause-ok
-returns-clause-ok c =
-    put_seen (stored c.args.self.now) (stored c.put.new.self) c.args.family.now (get nat_cmp c.apply_effects.new.copies) (get nat_cmp c.in_ok-copies.copies)
-    (after_effects c.args.effects.now) c.in_ok-put.ensures.ok c.in_ok-copies.ensures c.in_ok-apply_effects.ensures.ok
+pub returns-in_err-apply_effects-clause-err : goal.returns-in_err-apply_effects-clause-err
+returns-in_err-apply_effects-clause-err c =
+    on_err c.from_residual.result _
+        (unchanged_seen c.args.self.now.families (c.get_mut.follows.lender c.apply_effects.new.copies) c.args.family.now c.apply_effects.new.copies c.in-Some.copies.now
+        (search rules) (search rules) c.in_err-apply_effects.ensures.err)
+
+pub returns-in-Some-clause-ok : goal.returns-in-Some-clause-ok
+returns-in-Some-clause-ok c =
+    changed_seen c.args.self.now.families (c.get_mut.follows.lender c.apply_effects.new.copies) c.args.family.now c.apply_effects.new.copies c.in-Some.copies.now
+        (after_effects c.args.effects.now) (search rules) (search rules) c.in_ok-apply_effects.ensures.ok

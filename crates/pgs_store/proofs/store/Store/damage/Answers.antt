@@ -1,11 +1,18 @@
+use Rattle.std.proofs.Common.{rules, ap}
 use Rattle.std.specs.Ordering.{nat_cmp}
-use Rattle.std.specs.BTreeMap.{get}
+use Rattle.std.specs.Map.{lookup}
+use Rattle.std.specs.BTreeMap.{is_at}
 use Rattle.pgs_copy.specs.Copies.{after_damage}
-use Rattle.pgs_store.specs.Kept.{stored}
-use Rattle.pgs_store.proofs.Puts.{put_seen}
+use Rattle.pgs_store.proofs.Puts.{changed_seen, unchanged_seen, on_err}
 use Rattle.pgs_store.proofs.store.Store.damage.Goals as goal
 
-pub returns-clause-ok : goal.returns-clause-ok
-returns-clause-ok c =
-    put_seen (stored c.args.self.now) (stored c.put.new.self) c.args.family.now (get nat_cmp c.apply_damage.new.copies) (get nat_cmp c.in_ok-copies.copies)
-    (after_damage c.args.snap c.args.damage.now) c.in_ok-put.ensures.ok c.in_ok-copies.ensures c.in_ok-apply_damage.ensures.ok
+pub returns-in_err-apply_damage-clause-err : goal.returns-in_err-apply_damage-clause-err
+returns-in_err-apply_damage-clause-err c =
+    on_err c.from_residual.result _
+        (unchanged_seen c.args.self.now.families (c.get_mut.follows.lender c.apply_damage.new.copies) c.args.family.now c.apply_damage.new.copies c.in-Some.copies.now
+        (search rules) (search rules) (λ q. ap (lookup (is_at (nat_cmp q))) c.in_err-apply_damage.ensures.err))
+
+pub returns-in_ok-apply_damage-clause-ok : goal.returns-in_ok-apply_damage-clause-ok
+returns-in_ok-apply_damage-clause-ok c =
+    changed_seen c.args.self.now.families (c.get_mut.follows.lender c.apply_damage.new.copies) c.args.family.now c.apply_damage.new.copies c.in-Some.copies.now
+        (after_damage c.args.snap c.args.damage.now) (search rules) (search rules) c.in_ok-apply_damage.ensures.ok
