@@ -1,0 +1,5 @@
+-- The laws of fields: spelling and reading are inverse.
+pub mod Steps
+pub mod Laws
+pub mod Whole
+pub mod IdLaws
