@@ -3,3 +3,4 @@ pub mod Steps
 pub mod Laws
 pub mod Whole
 pub mod IdLaws
+pub mod Loop
