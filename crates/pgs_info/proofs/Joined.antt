@@ -1,0 +1,11 @@
+-- Appending piece after piece appends all of them.
+use Rattle.std.proofs.Common.{◌≡◌, ℕ, List, ◌++◌, append_assoc}
+
+pub two : (old a b : List ℕ) → (old ++ a) ++ b ≡ old ++ (a ++ b)
+two old a b = append_assoc old a b
+
+pub three : (old a b c : List ℕ) → ((old ++ a) ++ b) ++ c ≡ old ++ (a ++ (b ++ c))
+three old a b c = simp append_assoc
+
+pub four : (old a b c d : List ℕ) → (((old ++ a) ++ b) ++ c) ++ d ≡ old ++ (a ++ (b ++ (c ++ d)))
+four old a b c d = simp append_assoc

@@ -1,0 +1,4 @@
+-- The laws of object infos.
+pub mod Joined
+pub mod FlagLaws
+pub mod InfoLaws

@@ -1,0 +1,3 @@
+-- How an object info is spelled and read.
+pub mod Flags
+pub mod Info

@@ -1,0 +1,8 @@
+use Rattle.std.proofs.Common.{◌≡◌, ◌-◌}
+use Rattle.pgs_codec.specs.Fields.{u64, read_all}
+use Rattle.pgs_codec.proofs.Loop.{with_front}
+use Rattle.pgs_snapset.proofs.reading.take_all_snaps.Given as goal
+
+-- what was read and what is still to be read are all of it
+abbrev pub invariant-loop : goal.invariant-loop
+invariant-loop l = with_front l.snaps (read_all u64 (l.count - l.counter) l.reader) ≡ read_all u64 l.count l.fn.reader

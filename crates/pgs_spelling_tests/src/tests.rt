@@ -1,0 +1,4 @@
+mod fields;
+mod infos;
+mod places;
+mod snapsets;
