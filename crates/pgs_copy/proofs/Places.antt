@@ -1,17 +1,16 @@
 -- Effects that are applied in place: attributes that are there stay there.
 use Rattle.std.proofs.Common.{ℕ, ◌≡◌, ◌==◌, Bool, true, false, cond, not, ◌&&◌, List, [], ◌∷◌, Option, Some, None, refl, sym, ap, subst, ◌∙◌}
 use Rattle.std.specs.Prelude.{is_some}
-use Rattle.std.specs.List.{list_all, AllByRecursion}
-use Rattle.std.specs.Ordering.{is_eq, nat_cmp}
+use Rattle.std.specs.List.{list_all}
+use Rattle.std.specs.Ordering.{nat_cmp}
 use Rattle.std.specs.Cmp.Lexicographic.{slice_cmp, texts_ties, bytes_decides}
 use Rattle.std.specs.BTreeMap.{is_at}
 use Rattle.pgs_bytes.specs.Texts.{same_text}
-use Rattle.pgs_bytes.proofs.Facts.{both, joined, true_false}
+use Rattle.pgs_bytes.proofs.Facts.{both, true_false}
 use Rattle.pgs_name.specs.declared.object_id.TheConstants.{HEAD}
 use Rattle.pgs_copy.specs.declared.obj_copy.ObjCopy.{ObjCopy}
 use Rattle.pgs_copy.specs.declared.effect.Effect.{Effect}
 use Rattle.pgs_copy.specs.declared.effect.Effect.TheVariants.{Clear, SetData, Write, Truncate, SetAttr, RmAttr, SetOmap, RmOmap, SetHeader, Clone, Remove, Install}
-use Rattle.pgs_copy.specs.Pairs.{value_at}
 use Rattle.pgs_copy.specs.Copies.{affected, after_effect, after_effects}
 use Rattle.pgs_copy.specs.InPlace.{is_edit, keeps_attr, has_attr, is_change, is_in_place, IsThere, AreThere}
 use Rattle.pgs_copy.proofs.Laws.{same_copies}
@@ -101,8 +100,7 @@ pub change_next : (items rest : List (ℕ × Effect)) (snap : ℕ) (change : Eff
     → AreThere items copies → ((q : ℕ) → next q ≡ after_effect snap change copies q) → after_effects items copies ≡ whole
     → AreThere rest next × (after_effects rest next ≡ whole)
 change_next items rest snap change copies next whole steps there is holds =
-    let h = subst (λ l. AreThere l copies) steps there in
-    (
+    let h = subst (λ l. AreThere l copies) steps there in (
       all_there_behind snap change copies next rest h.0 h.1 is,
       ap (after_effects rest) (same_copies next (after_effect snap change copies) is) ∙ ap (λ l. after_effects l copies) (sym steps) ∙ holds,
     )

@@ -30,15 +30,10 @@ pub fn is_in_place(
     are_changes(copies, effect, rest)
 }
 
-fn are_changes(
-    copies: &BTreeMap<u64, ObjCopy>,
-    first: &Effect,
-    rest: &[(u64, Effect)],
-) -> bool
+fn are_changes(copies: &BTreeMap<u64, ObjCopy>, first: &Effect, rest: &[(u64, Effect)]) -> bool
     ensures { result ≡ list_all (λ e. is_change first.now (get nat_cmp copies.now e.0) e.1) rest.now }
 {
-    rest.iter()
-        .all(|(snap, change)| is_change_of(copies, first, *snap, change))
+    rest.iter().all(|(snap, change)| is_change_of(copies, first, *snap, change))
 }
 
 fn is_edit(effect: &Effect) -> bool
@@ -50,12 +45,7 @@ fn is_edit(effect: &Effect) -> bool
     )
 }
 
-fn is_change_of(
-    copies: &BTreeMap<u64, ObjCopy>,
-    first: &Effect,
-    snap: u64,
-    change: &Effect,
-) -> bool
+fn is_change_of(copies: &BTreeMap<u64, ObjCopy>, first: &Effect, snap: u64, change: &Effect) -> bool
     ensures { result ≡ is_change first.now (get nat_cmp copies.now snap) change.now }
 {
     match change {

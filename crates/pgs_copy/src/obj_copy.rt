@@ -39,7 +39,10 @@ impl ObjCopy {
         let omap = self.omap.size()?;
         let bytes = self.bytes.len() as u64;
         let header = self.header.len() as u64;
-        attrs.checked_add(omap)?.checked_add(bytes)?.checked_add(header)
+        attrs
+            .checked_add(omap)?
+            .checked_add(bytes)?
+            .checked_add(header)
     }
 }
 

@@ -80,17 +80,64 @@ fn pairs_set_replaced_and_taken_away(rt: HostRuntime) -> Result<(), Fail> {
     Ok(())
 }
 
-// A head with the data `abc`, an attribute, the snapset, a key and a header.
+fn data_set(alloc: Global, bytes: &[u8]) -> Result<Effect, AllocError> {
+    let bytes = text(alloc, bytes)?;
+    Ok(Effect::SetData { bytes })
+}
+
+fn data_written(alloc: Global, at: u32, bytes: &[u8]) -> Result<Effect, AllocError> {
+    let bytes = text(alloc, bytes)?;
+    Ok(Effect::Write { at, bytes })
+}
+
+fn attr(alloc: Global, name: &[u8], value: &[u8]) -> Result<Effect, AllocError> {
+    let name = text(alloc, name)?;
+    let value = text(alloc, value)?;
+    Ok(Effect::SetAttr { name, value })
+}
+
+fn no_attr(alloc: Global, name: &[u8]) -> Result<Effect, AllocError> {
+    let name = text(alloc, name)?;
+    Ok(Effect::RmAttr { name })
+}
+
+fn key(alloc: Global, key: &[u8], value: &[u8]) -> Result<Effect, AllocError> {
+    let key = text(alloc, key)?;
+    let value = text(alloc, value)?;
+    Ok(Effect::SetOmap { key, value })
+}
+
+fn no_key(alloc: Global, key: &[u8]) -> Result<Effect, AllocError> {
+    let key = text(alloc, key)?;
+    Ok(Effect::RmOmap { key })
+}
+
+fn header(alloc: Global, bytes: &[u8]) -> Result<Effect, AllocError> {
+    let bytes = text(alloc, bytes)?;
+    Ok(Effect::SetHeader { bytes })
+}
+
+fn clone_with(alloc: Global, info: &[u8]) -> Result<Effect, AllocError> {
+    let info = text(alloc, info)?;
+    Ok(Effect::Clone { info })
+}
+
+fn empty_installed(alloc: Global) -> Effect {
+    let copy = ObjCopy::new(alloc);
+    Effect::Install { copy }
+}
+
+// A head with the data `abc`, an info, the snapset, a key and a header.
 fn made_head(alloc: Global) -> Result<Vec<(u64, Effect)>, AllocError> {
     let effects = vec![in alloc;
         (HEAD, Effect::Clear),
-        (HEAD, Effect::SetData { bytes: text(alloc, b"ab")? }),
-        (HEAD, Effect::Write { at: 2, bytes: text(alloc, b"cde")? }),
+        (HEAD, data_set(alloc, b"ab")?),
+        (HEAD, data_written(alloc, 2, b"cde")?),
         (HEAD, Effect::Truncate { size: 3 }),
-        (HEAD, Effect::SetAttr { name: text(alloc, b"_")?, value: text(alloc, b"head")? }),
-        (HEAD, Effect::SetAttr { name: text(alloc, b"snapset")?, value: text(alloc, b"s")? }),
-        (HEAD, Effect::SetOmap { key: text(alloc, b"k")?, value: text(alloc, b"v")? }),
-        (HEAD, Effect::SetHeader { bytes: text(alloc, b"h")? }),
+        (HEAD, attr(alloc, b"_", b"head")?),
+        (HEAD, attr(alloc, b"snapset", b"s")?),
+        (HEAD, key(alloc, b"k", b"v")?),
+        (HEAD, header(alloc, b"h")?),
     ]?;
     Ok(effects)
 }
@@ -98,11 +145,11 @@ fn made_head(alloc: Global) -> Result<Vec<(u64, Effect)>, AllocError> {
 // A clone of it, and what is made and taken away again.
 fn made_clone(alloc: Global) -> Result<Vec<(u64, Effect)>, AllocError> {
     let effects = vec![in alloc;
-        (3, Effect::Clone { info: text(alloc, b"clone")? }),
-        (5, Effect::Install { copy: ObjCopy::new(alloc) }),
-        (6, Effect::Install { copy: ObjCopy::new(alloc) }),
+        (3, clone_with(alloc, b"clone")?),
+        (5, empty_installed(alloc)),
+        (6, empty_installed(alloc)),
         (6, Effect::Remove),
-        (HEAD, Effect::RmOmap { key: text(alloc, b"k")? }),
+        (HEAD, no_key(alloc, b"k")?),
     ]?;
     Ok(effects)
 }
@@ -110,9 +157,9 @@ fn made_clone(alloc: Global) -> Result<Vec<(u64, Effect)>, AllocError> {
 // A change in place: another attribute, and then the info and the snapset that are there.
 fn changed_head(alloc: Global) -> Result<Vec<(u64, Effect)>, AllocError> {
     let effects = vec![in alloc;
-        (HEAD, Effect::RmAttr { name: text(alloc, b"_x")? }),
-        (HEAD, Effect::SetAttr { name: text(alloc, b"_")?, value: text(alloc, b"newer")? }),
-        (HEAD, Effect::SetAttr { name: text(alloc, b"snapset")?, value: text(alloc, b"t")? }),
+        (HEAD, no_attr(alloc, b"_x")?),
+        (HEAD, attr(alloc, b"_", b"newer")?),
+        (HEAD, attr(alloc, b"snapset", b"t")?),
     ]?;
     Ok(effects)
 }
@@ -135,10 +182,12 @@ fn looks(
 ) -> Result<bool, AllocError> {
     let named = is_at(alloc, &copy.attrs, b"_", info)?;
     let listed = is_at(alloc, &copy.attrs, b"snapset", snapset)?;
-    Ok(copy.bytes.as_slice() == b"abc".as_slice()
-        && copy.size() == Some(size)
-        && named
-        && listed == !snapset.is_empty())
+    Ok(
+        copy.bytes.as_slice() == b"abc".as_slice()
+            && copy.size() == Some(size)
+            && named
+            && listed == !snapset.is_empty(),
+    )
 }
 
 #[test]

@@ -6,10 +6,10 @@ use Rattle.pgs_store.proofs.store.Store.apply.Goals as goal
 pub returns-in_err-apply_effects-clause-err : goal.returns-in_err-apply_effects-clause-err
 returns-in_err-apply_effects-clause-err c =
     on_err c.from_residual.result _
-        (unchanged_seen c.args.self.now.families (c.get_mut.follows.lender c.apply_effects.new.copies) c.args.family.now c.apply_effects.new.copies c.in-Some.copies.now
-        (search rules) (search rules) c.in_err-apply_effects.ensures.err)
+    (unchanged_seen c.args.self.now.families (c.get_mut.follows.lender c.apply_effects.new.copies) c.args.family.now c.apply_effects.new.copies c.in-Some.copies.now
+    (search rules) (search rules) c.in_err-apply_effects.ensures.err)
 
 pub returns-in-Some-clause-ok : goal.returns-in-Some-clause-ok
 returns-in-Some-clause-ok c =
     changed_seen c.args.self.now.families (c.get_mut.follows.lender c.apply_effects.new.copies) c.args.family.now c.apply_effects.new.copies c.in-Some.copies.now
-        (after_effects c.args.effects.now) (search rules) (search rules) c.in_ok-apply_effects.ensures.ok
+    (after_effects c.args.effects.now) (search rules) (search rules) c.in_ok-apply_effects.ensures.ok
