@@ -1,4 +1,4 @@
-"""Measures how the time of a run grows with its script, beside a plain baseline."""
+"""Measures how the time of a run grows with its script or with what it works on, beside a plain baseline."""
 
 import os
 import subprocess
@@ -6,8 +6,12 @@ import sys
 import tempfile
 
 TOP = os.path.dirname(os.path.dirname(os.path.abspath(__file__)))
+DECLARED = ['pool 0', 'osd 0 1', 'osd 1 1', 'osd 2 1', 'group 0 1 0 1 2']
 RUNS = 3
 MOST = 2.4
+# What is added to a start may take so many times as long on the larger object.
+ADDED_RUNS = 15
+ADDED_MOST = 3
 
 # Reads the script, understands nothing of it, and writes so many lines.
 BASELINE = """
@@ -16,6 +20,11 @@ lines = sys.stdin.readlines()
 for at in range(int(sys.argv[1])):
     sys.stdout.write(lines[at % len(lines)])
 """
+
+
+def of(lines):
+    """The script of these steps."""
+    return '\n'.join(DECLARED + lines + ['end', ''])
 
 
 def timed(words, given, taken):
@@ -30,11 +39,14 @@ def timed(words, given, taken):
 
 
 def lines_in(path):
-    """How many lines a file has; its last is `end`."""
+    """How many lines an output has; its last is `end`, and each of its writes was accepted."""
     with open(path, 'rb') as text:
         lines = text.read().split(b'\n')
     if lines[-2:] != [b'end', b'']:
         print('bench: the output has no end')
+        sys.exit(2)
+    if any(line.startswith(b'write ') and b' : accepted ' not in line for line in lines):
+        print('bench: a write was refused')
         sys.exit(2)
     return len(lines) - 1
 
@@ -47,20 +59,58 @@ def built_program():
     return os.path.join(TOP, 'crates', 'pgs', 'out', 'pgs')
 
 
+def least_times(program, scripts, runs):
+    """The least times of the program and of the baseline on each script. The scripts take turns."""
+    with tempfile.TemporaryDirectory() as folder:
+        given = [os.path.join(folder, str(at)) for at in range(len(scripts))]
+        taken = os.path.join(folder, 'out')
+        for path, script in zip(given, scripts):
+            with open(path, 'w', encoding='ascii') as out:
+                out.write(script)
+        rounds = [[both_times(program, path, taken) for path in given] for _ in range(runs)]
+    return [tuple(min(times) for times in zip(*of_one)) for of_one in zip(*rounds)]
+
+
+def both_times(program, given, taken):
+    """The time of the program on a script, and then that of the baseline."""
+    time = timed([program, 'replay'], given, taken)
+    return time, timed([sys.executable, '-c', BASELINE, str(lines_in(taken))], given, taken)
+
+
 def measure(numbers, script, what):
     """Prints times and ratios for scripts of so many things, and ends with status 1 where the last growth is too much."""
     program = built_program()
     times = []
-    with tempfile.TemporaryDirectory() as folder:
-        given, taken = os.path.join(folder, 'script'), os.path.join(folder, 'out')
-        for number in numbers:
-            with open(given, 'w', encoding='ascii') as out:
-                out.write(script(number))
-            times.append(min(timed([program, 'replay'], given, taken) for _ in range(RUNS)))
-            words = [sys.executable, '-c', BASELINE, str(lines_in(taken))]
-            plain = min(timed(words, given, taken) for _ in range(RUNS))
-            print('%d %s: %.3f s, baseline %.3f s, ratio %.2f' % (number, what, times[-1], plain, times[-1] / plain))
+    for number in numbers:
+        [(time, plain)] = least_times(program, [script(number)], RUNS)
+        times.append(time)
+        print('%d %s: %.3f s, baseline %.3f s, ratio %.2f' % (number, what, time, plain, time / plain))
     growth = [after / before for before, after in zip(times, times[1:])]
     for at, ratio in enumerate(growth):
         print('time(%d) / time(%d): %.2f' % (numbers[at + 1], numbers[at], ratio))
     sys.exit(1 if growth[-1] > MOST else 0)
+
+
+def time_added(program, name, start, added):
+    """Prints and gives the time of the added steps: that of the whole script, less that of its start alone."""
+    scripts = [of(start), of(start + added)]
+    (before, plain_before), (whole, plain_whole) = least_times(program, scripts, ADDED_RUNS)
+    time, plain = whole - before, plain_whole - plain_before
+    print('%s: %.3f s, of it %.3f s for the start' % (name, whole, before))
+    print('%s: %.3f s added, baseline %.3f s' % (name, time, plain))
+    if time <= 0:
+        print('bench: the added steps were lost in the noise')
+        sys.exit(2)
+    return time
+
+
+def measure_added(what, small, large):
+    """Prints how much longer the added steps take on the large object; true where that is not too much.
+
+    Each object is its name, the steps of its start, and the steps that are added to them.
+    """
+    program = built_program()
+    little = time_added(program, *small)
+    much = time_added(program, *large)
+    print('%s, %s / %s: %.2f' % (what, large[0], small[0], much / little))
+    return much <= ADDED_MOST * little

@@ -4,3 +4,4 @@ pub mod Finds
 pub mod Maps
 pub mod Counting
 pub mod Scrubs
+pub mod WhyLaws

@@ -6,7 +6,7 @@ use Rattle.std.specs.HashSet.{contains}
 use Rattle.std.proofs.lemmas.List.{length-reverse}
 use Rattle.pgs_store.specs.Stores.{AreSame}
 use Rattle.pgs_op.specs.Clean.{clean as clean_of, held_by}
-use Rattle.pgs_op.specs.Effects.{first}
+use Rattle.pgs_op.specs.Refusals.{first}
 use Rattle.pgs_op_log.specs.Logs.{same_id}
 use Rattle.pgs_history.specs.Log.{clean, log}
 use Rattle.pgs_history.specs.Scrubs.{begun, opened, is_open}

@@ -4,3 +4,4 @@ pub mod Scrubbing
 pub mod Finding
 pub mod Tied
 pub mod Steps
+pub mod Weighed

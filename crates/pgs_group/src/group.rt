@@ -1,5 +1,5 @@
 ghost use Rattle.std.specs.Prelude.{◌≡◌, [], reverse, IfOk, OnOk, OnErr};
-ghost use Rattle.pgs_history.specs.Answers.{submit_answer, behind, collect_answer, tell_answer};
+ghost use Rattle.pgs_history.specs.Answers.{submit_answer, next_version, behind, collect_answer, tell_answer};
 ghost use Rattle.std.specs.Option.{option_copied};
 ghost use Rattle.pgs_history.specs.Legal.{IsLegal};
 ghost use Rattle.pgs_history.specs.Scrubs.{running, opened, open_chunk};
@@ -13,11 +13,13 @@ use crate::counts::Counts;
 use crate::pulled::Pulled;
 use crate::scrubbing::Scrubbing;
 use crate::step::{Answer, Step};
+use crate::weighed::Weighed;
+use crate::weighing::weigh;
 use pgs_history::{Chunk, Event, Made};
-use pgs_op::{CleanStore, Write, WriteError, make_effects};
+use pgs_op::{CleanStore, Write};
 use pgs_op_log::GroupLog;
 use pgs_range::Bound;
-use pgs_request::{CollectAnswer, Declined, ReqId, Version, WriteAnswer};
+use pgs_request::{CollectAnswer, ReqId, Version, WriteAnswer};
 use sqlite_items::Items;
 use std::alloc::{AllocError, Global};
 use std::collections::HashSet;
@@ -76,48 +78,57 @@ impl Group {
         }
     }
 
+    // The version of the next item of the log.
+    fn next_version(&self) -> Version
+        ensures { result ≡ next_version self.now.made self.now.past }
+    {
+        Version {
+            epoch: self.made.epoch,
+            number: self.log.len() + 1,
+        }
+    }
+
     /// Answers a client's write, and appends it to the log where it is accepted.
-    #[tactic(auto, using(pgs_op::proofs::Refusals::log_within, pgs_history::proofs::Legal::legal_submit), unfolding(pgs_history::specs::Answers::declined))]
+    #[tactic(auto, using(crate::proofs::Accepted::declined_so, crate::proofs::Accepted::accepted_so, pgs_history::proofs::Legal::legal_submit))]
     pub fn submit(&mut self, write: Write) -> Result<WriteAnswer, AllocError>
         ensures answer { IfOk result (λ a. a ≡ submit_answer self.old.made self.old.past write) }
         ensures kept { OnOk result (self.new ≡ record self.old { past = after_submit self.old.made self.old.past write }) }
         ensures err { OnErr result (self.new ≡ self.old) }
         ensures legal { IsLegal self.old.made self.old.past → IsLegal self.new.made self.new.past }
     {
-        self.events.reserve(1)?;
-        if let Some(version) = self.log.version_of(write.id) {
-            let answer = WriteAnswer::Declined {
-                declined: Declined::Repeat { version },
-            };
-            self.events.push_reserved(Event::Submit { write, answer });
-            return Ok(answer);
+        if self.events.reserve(1).is_err() {
+            drop(write);
+            return Err(AllocError);
         }
-        match make_effects(self.alloc, &self.clean, self.log.bytes(), &write) {
-            Ok(effects) => {
-                let version = Version {
-                    epoch: self.made.epoch,
-                    number: self.log.len() + 1,
-                };
-                accept(
+        let version = self.next_version();
+        match weigh(self.alloc, &self.log, &self.clean, &write, version) {
+            Ok(Weighed::Declined { declined }) => {
+                let answer = WriteAnswer::Declined { declined };
+                self.events.push_reserved(Event::Submit { write, answer });
+                Ok(answer)
+            }
+            Ok(Weighed::Makes { effects }) => {
+                if accept(
                     self.alloc,
                     &mut self.log,
                     &mut self.clean,
                     version,
                     &write,
                     effects,
-                )?;
+                )
+                .is_err()
+                {
+                    drop(write);
+                    return Err(AllocError);
+                }
                 let answer = WriteAnswer::Accepted { version };
                 self.events.push_reserved(Event::Submit { write, answer });
                 Ok(answer)
             }
-            Err(WriteError::Refused { refusal }) => {
-                let answer = WriteAnswer::Declined {
-                    declined: Declined::Refused { refusal },
-                };
-                self.events.push_reserved(Event::Submit { write, answer });
-                Ok(answer)
+            Err(AllocError) => {
+                drop(write);
+                Err(AllocError)
             }
-            Err(WriteError::Memory) => Err(AllocError),
         }
     }
 

@@ -11,6 +11,8 @@ mod pulled;
 mod scrubbing;
 mod step;
 mod taken;
+mod weighed;
+mod weighing;
 
 pub use counts::Counts;
 pub use group::Group;

@@ -4,13 +4,14 @@ use Rattle.std.specs.Prelude.{option_map}
 use Rattle.std.proofs.lemmas.Bool.Decides.{nat_tests}
 use Rattle.std.proofs.lemmas.List.Sums.{sum_by-cons}
 use Rattle.pgs_bytes.proofs.Facts.{none_some, some_same, both}
+use Rattle.pgs_request.specs.Contexts.{bad_place}
 use Rattle.pgs_request.specs.declared.req_id.ReqId.{ReqId}
 use Rattle.pgs_request.specs.declared.version.Version.{Version}
 use Rattle.pgs_request.specs.declared.answers.Refusal.{Refusal}
 use Rattle.pgs_request.specs.declared.answers.Declined.{Declined as DeclinedWrite}
-use Rattle.pgs_request.specs.declared.answers.Declined.TheVariants.{Repeat, Refused}
+use Rattle.pgs_request.specs.declared.answers.Declined.TheVariants.{Repeat, BadSnapContext, Refused}
 use Rattle.pgs_request.specs.declared.answers.WriteAnswer.TheVariants.{Declined, Accepted}
-use Rattle.pgs_op.specs.Effects.{first}
+use Rattle.pgs_op.specs.Refusals.{first}
 use Rattle.pgs_op.specs.declared.write.Write.{Write}
 use Rattle.pgs_history.specs.Log.{log, ids}
 use Rattle.pgs_op_log.specs.Logs.{same_id, version_in, AreNumbered}
@@ -24,16 +25,19 @@ use Rattle.pgs_history.specs.declared.made.Made.{Made}
 
 -- ---- what an accepted write tells
 
-first_two : (a : Option Version) (b : Option Refusal) → first (option_map (λ version. Repeat version) a ∷ option_map (λ refusal. Refused refusal) b ∷ []) ≡ None
-    → (a ≡ None) × (b ≡ None)
-first_two None None e = (refl, refl)
-first_two None (Some b) e = absurd (none_some _ (sym e))
-first_two (Some a) b e = absurd (none_some _ (sym e))
+first_none : (a : Option Version) (b : Option ℕ) (c : Option Refusal)
+    → first (option_map (λ version. Repeat version) a ∷ option_map (λ place. BadSnapContext place) b ∷ option_map (λ refusal. Refused refusal) c ∷ []) ≡ None
+    → (a ≡ None) × (b ≡ None) × (c ≡ None)
+first_none None None None e = (refl, refl, refl)
+first_none None None (Some c) e = absurd (none_some _ (sym e))
+first_none None (Some b) c e = absurd (none_some _ (sym e))
+first_none (Some a) b c e = absurd (none_some _ (sym e))
 
 pub record IsAccepted (made : Made) (past : List Event) (write : Write) (version : Version) : Type 0 where
   pub next : next_version made past ≡ version
   pub new : version_in (ids past) write.id ≡ None
-  pub unrefused : refused past write ≡ None
+  pub ascends : bad_place write.context ≡ None
+  pub unrefused : refused past write version ≡ None
 
 answered_version : (why : Option DeclinedWrite) (next version : Version) → answered why next ≡ Accepted version → (why ≡ None) × (next ≡ version)
 answered_version None next version e = (refl, cc)
@@ -42,9 +46,9 @@ answered_version (Some why) next version e = absurd cc
 pub accepted_is : (made : Made) (past : List Event) (write : Write) (version : Version) → Accepted version ≡ submit_answer made past write → IsAccepted made past write version
 unfolding declined
 accepted_is made past write version e =
-    let a = answered_version (declined past write) (next_version made past) version (sym e) in
-    let b = first_two (version_in (ids past) write.id) (refused past write) a.0 in
-    record { next = a.1; new = b.0; unrefused = b.1 }
+    let a = answered_version (declined made past write) (next_version made past) version (sym e) in
+    let b = first_none (version_in (ids past) write.id) (bad_place write.context) (refused past write (next_version made past)) a.0 in
+    record { next = a.1; new = b.0; ascends = b.1; unrefused = ap (refused past write) (sym a.1) ∙ b.2 }
 
 -- ---- numbers
 

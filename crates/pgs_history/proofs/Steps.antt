@@ -5,7 +5,7 @@ use Rattle.std.specs.Bool.{then_some}
 use Rattle.std.proofs.lemmas.Bool.Decides.{nat_tests}
 use Rattle.pgs_bytes.proofs.Facts.{true_false}
 use Rattle.pgs_name.specs.declared.object_id.ObjectId.{ObjectId}
-use Rattle.pgs_op.specs.Effects.{first}
+use Rattle.pgs_op.specs.Refusals.{first}
 use Rattle.pgs_history.specs.Scrubs.{running, begun, opened, open_chunk, is_open}
 use Rattle.pgs_history.specs.Answers.{unclosed, or_closed, found, is_last, missing, begin_answered, begin_answer, open_answer, open_answered, next_chunk, close_answer}
 use Rattle.pgs_history.specs.declared.made.Made.{Made}

@@ -1,17 +1,17 @@
 -- The answers of a group, by the events before: the first row of a table whose condition holds.
 use Rattle.std.specs.Prelude.{ℕ, ◌+◌, ◌==◌, ◌||◌, nat_lt, max, Bool, false, true, not, List, [], ◌∷◌, length, Option, Some, None, option_map, is_none, find, if◌then◌else◌, slice_get}
 use Rattle.std.specs.Bool.{then_some}
-use Rattle.pgs_name.specs.declared.object_id.TheConstants.{HEAD}
+use Rattle.pgs_request.specs.Contexts.{bad_place}
 use Rattle.pgs_request.specs.declared.req_id.ReqId.{ReqId}
 use Rattle.pgs_request.specs.declared.version.Version.{Version}
 use Rattle.pgs_request.specs.declared.answers.Refusal.{Refusal}
 use Rattle.pgs_request.specs.declared.answers.Declined.{Declined as DeclinedWrite}
-use Rattle.pgs_request.specs.declared.answers.Declined.TheVariants.{Repeat, Refused}
+use Rattle.pgs_request.specs.declared.answers.Declined.TheVariants.{Repeat, BadSnapContext, Refused}
 use Rattle.pgs_request.specs.declared.answers.WriteAnswer.{WriteAnswer}
 use Rattle.pgs_request.specs.declared.answers.WriteAnswer.TheVariants.{Declined, Accepted}
 use Rattle.pgs_request.specs.declared.answers.CollectAnswer.{CollectAnswer}
 use Rattle.pgs_request.specs.declared.answers.CollectAnswer.TheVariants.{Unknown, NotYet, Acked}
-use Rattle.pgs_op.specs.Effects.{first, refusal_of}
+use Rattle.pgs_op.specs.Refusals.{first, refusal_of}
 use Rattle.pgs_op.specs.declared.write.Write.{Write}
 use Rattle.pgs_history.specs.Log.{clean, held, log, ids, log_bytes}
 use Rattle.pgs_op_log.specs.Logs.{version_in, greatest_in}
@@ -37,27 +37,28 @@ use Rattle.pgs_history.specs.declared.made.Made.{Made}
 
 -- ---- submit
 
--- why a write makes no effects
-abbrev pub refused : List Event → Write → Option Refusal
-refused past write = refusal_of (held (log past)) (clean (log past) write.family HEAD) (log_bytes past) write.op
-
--- why a write isn't appended: its id stands in the log, or it makes no effects
-unfoldable pub declined : List Event → Write → Option DeclinedWrite
-declined past write = first (
-    option_map (λ version. Repeat version) (version_in (ids past) write.id)
-    ∷ option_map (λ refusal. Refused refusal) (refused past write)
-    ∷ [])
-
 -- the version of the next item
 abbrev pub next_version : Made → List Event → Version
 next_version made past = record { epoch = made.epoch; number = length (log past) + 1 }
+
+-- why a write of a version makes no effects
+abbrev pub refused : List Event → Write → Version → Option Refusal
+refused past write version = refusal_of (held (log past)) (clean (log past) write.family) (log_bytes past) write version
+
+-- why a write isn't appended: its id stands in the log, its context of snapshots has a bad place, or it makes no effects
+unfoldable pub declined : Made → List Event → Write → Option DeclinedWrite
+declined made past write = first (
+    option_map (λ version. Repeat version) (version_in (ids past) write.id)
+    ∷ option_map (λ place. BadSnapContext place) (bad_place write.context)
+    ∷ option_map (λ refusal. Refused refusal) (refused past write (next_version made past))
+    ∷ [])
 
 abbrev pub answered : Option DeclinedWrite → Version → WriteAnswer
 answered None version = Accepted version
 answered (Some why) version = Declined why
 
 abbrev pub submit_answer : Made → List Event → Write → WriteAnswer
-submit_answer made past write = answered (declined past write) (next_version made past)
+submit_answer made past write = answered (declined made past write) (next_version made past)
 
 -- ---- collect
 

@@ -1,13 +1,17 @@
 -- The log of a group, by its events, the newest first: the items of the accepted writes.
-use Rattle.std.specs.Prelude.{ℕ, ◌+◌, List, [], ◌∷◌}
-use Rattle.std.specs.List.{sum_by}
+use Rattle.std.specs.Prelude.{ℕ, ◌+◌, List, [], ◌∷◌, ◌++◌, if◌then◌else◌}
+use Rattle.std.specs.List.{list_any, sum_by}
 use Rattle.pgs_name.specs.Families.{Family}
-use Rattle.pgs_name.specs.declared.object_id.TheConstants.{HEAD}
-use Rattle.pgs_store.specs.Stores.{Stored, nothing_stored, affected, noted, copy_size}
+use Rattle.pgs_name.specs.Positions.{same_position}
+use Rattle.pgs_name.specs.declared.object_id.ObjectId.{ObjectId}
+use Rattle.pgs_copy.specs.declared.effect.Effect.{Effect}
+use Rattle.pgs_store.specs.Firsts.{at_snap}
+use Rattle.pgs_store.specs.Stores.{Stored, nothing_stored, affected, copy_size}
+use Rattle.pgs_request.specs.Ops.{payload_size}
 use Rattle.pgs_request.specs.declared.req_id.ReqId.{ReqId}
 use Rattle.pgs_request.specs.declared.version.Version.{Version}
 use Rattle.pgs_request.specs.declared.answers.WriteAnswer.TheVariants.{Accepted}
-use Rattle.pgs_op.specs.Effects.{payload_size, effects_of}
+use Rattle.pgs_op.specs.Refusals.{effects_on}
 use Rattle.pgs_op.specs.declared.write.Write.{Write}
 use Rattle.pgs_medium.specs.declared.item.Item.{Item}
 use Rattle.pgs_history.specs.declared.event.Event.{Event}
@@ -20,17 +24,26 @@ abbrev pub clean : List Item → Stored
 clean [] = nothing_stored
 clean (item ∷ items) = affected item.family item.effects (clean items)
 
--- the families of items, in the order of their first items
-abbrev pub families : List Item → List Family
-families [] = []
-families (item ∷ items) = noted item.family (families items)
+-- a list of positions with one more, at its end, unless it has it
+abbrev pub with_position : ObjectId → List ObjectId → List ObjectId
+with_position id ids = if list_any (same_position id) ids then ids else ids ++ id ∷ []
 
--- the bytes of the copies that the items make: until clones come, those of the heads
-abbrev pub head_size : Stored → Family → ℕ
-head_size stored family = copy_size (stored family HEAD)
+-- with those that effects on a family are on
+abbrev pub with_positions : Family → List (ℕ × Effect) → List ObjectId → List ObjectId
+with_positions family [] ids = ids
+with_positions family (e ∷ es) ids = with_position (at_snap family e.0) (with_positions family es ids)
+
+-- the positions that items name, each once
+abbrev pub positions : List Item → List ObjectId
+positions [] = []
+positions (item ∷ items) = with_positions item.family item.effects (positions items)
+
+-- the bytes of the copies that the items make
+abbrev pub stored_size : Stored → ObjectId → ℕ
+stored_size stored id = copy_size (stored id.family id.snap)
 
 abbrev pub held : List Item → ℕ
-held items = sum_by (head_size (clean items)) (families items)
+held items = sum_by (stored_size (clean items)) (positions items)
 
 -- ---- the log
 
@@ -40,7 +53,7 @@ item_of version write items = record {
   number = version.number;
   epoch = version.epoch;
   family = write.family;
-  effects = effects_of (clean items write.family HEAD) write.op;
+  effects = effects_on (clean items write.family) write version;
 }
 
 abbrev pub log_after : Event → List Item → List Item

@@ -26,7 +26,7 @@ join_more [] vs e = absurd (true_false (sym e))
 join_more (w ∷ ws) vs e = join_begins w (ws ++ vs) ∙ ap (λ r. w ++ r) (behind_more ws vs) ∙ sym (append_assoc w (behind ws) (behind vs))
 
 step_some : (d : Done) → has_some (step_words d) ≡ true
-step_some (dones.Write client serial object op answer) = refl
+step_some (dones.Write client serial object context op answer) = refl
 step_some (dones.Collect group client serial answer) = refl
 step_some (dones.Pull group osd before now) = refl
 step_some (dones.Apply group osd answer) = refl

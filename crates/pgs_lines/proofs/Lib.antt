@@ -1,4 +1,8 @@
 -- Laws of lines.
 pub mod Fronts
+pub mod ChoiceLaws
+pub mod ContextLaws
+pub mod OpLaws
 pub mod LineLaws
+pub mod Marked
 pub mod Behind

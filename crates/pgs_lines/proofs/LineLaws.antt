@@ -1,23 +1,17 @@
 -- Each line is read as it is spelled, and spelled as it is read.
-use Rattle.std.proofs.Common.{◌≡◌, ℕ, ◌^◌, ◌==◌, true, false, List, [], ◌∷◌, Some, refl, ◌∙◌, ap, subst, arith}
+use Rattle.std.proofs.Common.{◌≡◌, ℕ, ◌==◌, true, false, [], ◌∷◌, Option, Some, None, refl, ◌∙◌, ap, subst, arith}
 use Rattle.std.specs.Prelude.{option_map, codes}
 use Rattle.std.specs.List.{list_all}
 use Rattle.std.proofs.lemmas.Bool.Decides.{nat_tests}
-use Rattle.pgs_words.specs.Forms.{Form, field, last, word_then, nothing, each, has_some, no_row, read_rows, after_front}
-use Rattle.pgs_words.specs.Fields.{number, positive, positive_byte, is_plain, plain_byte, dash}
-use Rattle.pgs_words.specs.Hex.{hex, hex_byte}
+use Rattle.pgs_words.specs.Forms.{Form, field, last, nothing, each, has_some, no_row, read_rows}
+use Rattle.pgs_words.specs.Fields.{number, positive, positive_byte, plain_byte, number_of, digits_from}
 use Rattle.pgs_words.proofs.Laws.{FieldLaws, FormLaws, mapped_of}
-use Rattle.pgs_words.proofs.FormLaws.{weaker, nothing_laws, field_laws, last_laws, word_then_laws, each_laws, such_form_laws, itself_laws, parts_laws}
+use Rattle.pgs_words.proofs.FormLaws.{nothing_laws, field_laws, last_laws, each_laws, such_form_laws, seen_field_laws, parts_laws}
 use Rattle.pgs_words.proofs.KindLaws.{IsKind, IsSpelled, kind_of, FindsSpelled, row_finds, no_row_finds, by_rows_finds, kinds_laws, keyword_laws}
-use Rattle.pgs_words.proofs.FrontLaws.{IsWriting, IsWritten, front_of, front_finds, by_fronts_finds, fronts_laws}
-use Rattle.pgs_words.proofs.FieldLaws.{is_digit, number_laws, word_of_laws, dash_or_laws, number_word, positive_word, positive_byte_word}
-use Rattle.pgs_words.proofs.HexLaws.{is_hex_digit, hex_plain, hex_laws, hex_byte_laws}
-use Rattle.pgs_request.specs.declared.payload.Payload.{Payload}
-use Rattle.pgs_request.specs.declared.payload.Payload.TheVariants.{Text, Hex, Fill}
-use Rattle.pgs_request.specs.declared.op.Op.{Op}
-use Rattle.pgs_request.specs.declared.op.Op.TheVariants.{Full}
-use Rattle.pgs_lines.specs.Payload.{plain, filled, payload_said, payload_fronts, payload_read, payload}
-use Rattle.pgs_lines.specs.Objects.{last_payload, op_said, op_rows, op_read, op, flip_form, damage_said, damage_rows, damage_read, damage, snap_word, snap, kind_word, kind, space, key, name, named}
+use Rattle.pgs_words.proofs.FieldLaws.{word_of_laws, dash_or_laws, number_word, positive_word, positive_byte_word}
+use Rattle.pgs_lines.specs.Choices.{word_or}
+use Rattle.pgs_lines.specs.Contexts.{context}
+use Rattle.pgs_lines.specs.Objects.{op, flip_form, damage_said, damage_rows, damage_read, damage, snap_of, clone_in, snap, kind_word, kind, space, key, name, named}
 use Rattle.pgs_lines.specs.Basics.{write_form, write_of, collect_form, member_form, damage_form, damage_of, basic_said, basic_rows, basic_read}
 use Rattle.pgs_lines.specs.Steps.{sweep_form, step_said, step_rows, basic_step_read, step_read}
 use Rattle.pgs_lines.specs.Lines.{osd_form, members_form, group_form, line_said, line_rows, step_line_read, line_read, line_form, line, in_line}
@@ -26,71 +20,16 @@ use Rattle.pgs_lines.specs.declared.damage.Damage.TheVariants.{Flip}
 use Rattle.pgs_lines.specs.declared.kind.Kind.{Kind}
 use Rattle.pgs_lines.specs.declared.kind.Kind.TheVariants.{Deep}
 use Rattle.pgs_lines.specs.declared.snap.Snap.{Snap}
-use Rattle.pgs_lines.specs.declared.snap.Snap.TheVariants.{Head}
+use Rattle.pgs_lines.specs.declared.snap.Snap.TheVariants as snaps
 use Rattle.pgs_lines.specs.declared.basic.Basic.{Basic}
 use Rattle.pgs_lines.specs.declared.basic.Basic.TheVariants as basics
 use Rattle.pgs_lines.specs.declared.step.Step.{Step}
 use Rattle.pgs_lines.specs.declared.step.Step.TheVariants as steps
 use Rattle.pgs_lines.specs.declared.line.Line.{Line}
 use Rattle.pgs_lines.specs.declared.line.Line.TheVariants as lines
-
--- ---- payloads
-
-plain_laws : FieldLaws plain_byte plain
-plain_laws = itself_laws plain_byte is_plain (λ w e. e)
-
-hex_word : FieldLaws plain_byte hex
-hex_word = weaker is_hex_digit plain_byte hex hex_plain hex_laws
-
-digit_is_hex : (b : ℕ) → is_digit b ≡ true → is_hex_digit b ≡ true
-digit_is_hex b e = grind (arith, nat_tests)
-
-no_colon : (b : ℕ) → is_hex_digit b ≡ true → (b == 58) ≡ false
-no_colon b e = grind (arith, nat_tests)
-
-number_hex : FieldLaws is_hex_digit number
-number_hex = weaker is_digit is_hex_digit number digit_is_hex (number_laws (2 ^ 32) (omega arith) (omega arith))
-
-filled_laws : FieldLaws plain_byte filled
-filled_laws = parts_laws is_hex_digit plain_byte 58 (field number (last hex_byte))
-    (field_laws is_hex_digit number (last hex_byte) number_hex (last_laws is_hex_digit hex_byte hex_byte_laws)) no_colon hex_plain refl (λ x e. refl)
-
-payload_kind : (x : Payload) → IsWriting plain_byte payload_read (payload_said x) x
-unfolding payload_read payload_fronts after_front
-payload_kind (Text bytes) = front_of plain_byte payload_read (codes "text:") plain (λ x. Text x) plain_laws (λ w. refl) refl bytes
-payload_kind (Hex bytes) = front_of plain_byte payload_read (codes "hex:") hex (λ x. Hex x) hex_word (λ w. refl) refl bytes
-payload_kind (Fill count byte) = front_of plain_byte payload_read (codes "fill:") filled (λ x. Fill x.0 x.1) filled_laws (λ w. refl) refl (count, byte)
-
-payload_finds : (w : List ℕ) (x : Payload) → payload_read w ≡ Some x → IsWritten payload_said w x
-unfolding payload_read payload_fronts
-payload_finds = by_fronts_finds payload_said payload_fronts (
-  front_finds plain_byte payload_said (codes "text:") plain (λ x. Text x) plain_laws (λ y. refl),
-  (
-    front_finds plain_byte payload_said (codes "hex:") hex (λ x. Hex x) hex_word (λ y. refl),
-    (
-      front_finds plain_byte payload_said (codes "fill:") filled (λ x. Fill x.0 x.1) filled_laws (λ y. refl),
-      tt,
-    ),
-  ),
-)
-
-payload_laws : FieldLaws plain_byte payload
-payload_laws = fronts_laws plain_byte payload_said payload_read payload_kind payload_finds
-
--- ---- what a write does
-
-op_kind : (x : Op) → IsKind plain_byte op_read (op_said x) x
-unfolding op_read op_rows
-op_kind (Full p) = kind_of plain_byte op_read (codes "full") last_payload (λ p. Full p) (last_laws plain_byte payload payload_laws) (λ ws. refl) refl p
-
-op_finds : FindsSpelled op_said op_read
-unfolding op_read op_rows
-op_finds = by_rows_finds op_said op_rows no_row
-    (row_finds plain_byte op_said (codes "full") last_payload (λ p. Full p) (last_laws plain_byte payload payload_laws) (λ y. refl), tt)
-    (no_row_finds op_said)
-
-op_laws : FormLaws plain_byte op
-op_laws = kinds_laws plain_byte op_said op_read op_kind op_finds
+use Rattle.pgs_lines.proofs.ChoiceLaws.{word_or_laws}
+use Rattle.pgs_lines.proofs.ContextLaws.{context_laws}
+use Rattle.pgs_lines.proofs.OpLaws.{op_laws}
 
 -- ---- what damage does
 
@@ -112,14 +51,21 @@ damage_laws = kinds_laws plain_byte damage_said damage_read damage_kind damage_f
 
 -- ---- words for values
 
-snap_again : (x : Snap) → snap.read (snap_word x) ≡ Some x
-snap_again Head = refl
+snap_again : (x : Snap) → snap_of (clone_in x) ≡ x
+snap_again snaps.Head = refl
+snap_again (snaps.Clone n) = refl
 
-snap_keeps : (x : Snap) → list_all plain_byte (snap_word x) ≡ true
-snap_keeps Head = refl
+clone_again : (x : Option ℕ) → clone_in (snap_of x) ≡ x
+clone_again None = refl
+clone_again (Some n) = refl
+
+head_is_none : positive.read (codes "head") ≡ None
+unfolding number_of digits_from
+head_is_none = refl
 
 snap_laws : FieldLaws plain_byte snap
-snap_laws = keyword_laws plain_byte snap_word ((codes "head", Head) ∷ []) (refl, tt) snap_again snap_keeps
+snap_laws = seen_field_laws plain_byte snap_of clone_in (word_or (codes "head") positive)
+    (word_or_laws plain_byte (codes "head") positive refl head_is_none positive_word) snap_again clone_again
 
 kind_again : (x : Kind) → kind.read (kind_word x) ≡ Some x
 kind_again Deep = refl
@@ -143,9 +89,9 @@ named_laws b laws = field_laws plain_byte space (field key (field name b)) (dash
     (field_laws plain_byte key (field name b) (dash_or_laws 255) (field_laws plain_byte name b (word_of_laws 1 255) laws))
 
 write_laws : FormLaws plain_byte write_form
-write_laws = field_laws plain_byte number (field number (named (word_then dash op))) number_word
-    (field_laws plain_byte number (named (word_then dash op)) number_word
-    (named_laws (word_then dash op) (word_then_laws plain_byte dash op refl op_laws)))
+write_laws = field_laws plain_byte number (field number (named (field context op))) number_word
+    (field_laws plain_byte number (named (field context op)) number_word
+    (named_laws (field context op) (field_laws plain_byte context op context_laws op_laws)))
 
 collect_laws : FormLaws plain_byte collect_form
 collect_laws = field_laws plain_byte number (field number (last number)) number_word member_laws
@@ -157,8 +103,8 @@ damage_form_laws = field_laws plain_byte number (field number (named (field snap
 
 basic_kind : (x : Basic) → IsKind plain_byte basic_read (basic_said x) x
 unfolding basic_read basic_rows
-basic_kind (basics.Write client serial o p) =
-    kind_of plain_byte basic_read (codes "write") write_form write_of write_laws (λ ws. refl) refl (client, (serial, (o.space, (o.key, (o.name, p)))))
+basic_kind (basics.Write client serial o c p) =
+    kind_of plain_byte basic_read (codes "write") write_form write_of write_laws (λ ws. refl) refl (client, (serial, (o.space, (o.key, (o.name, (c, p))))))
 basic_kind (basics.Collect group client serial) =
     kind_of plain_byte basic_read (codes "collect") collect_form (λ x. basics.Collect x.0 x.1.0 x.1.1) collect_laws (λ ws. refl) refl (group, (client, serial))
 basic_kind (basics.Pull group osd) =
@@ -201,7 +147,7 @@ sweep_laws = field_laws plain_byte number (last kind) number_word (last_laws pla
 -- the word of a basic step is that of no other step
 basic_passed_on : (b : Basic) → read_rows step_read (basic_said b).words ≡ option_map (λ x. steps.Basic x) (read_rows basic_read (basic_said b).words)
 unfolding step_read step_rows
-basic_passed_on (basics.Write client serial o p) = refl
+basic_passed_on (basics.Write client serial o c p) = refl
 basic_passed_on (basics.Collect group client serial) = refl
 basic_passed_on (basics.Pull group osd) = refl
 basic_passed_on (basics.Apply group osd) = refl
@@ -252,7 +198,7 @@ group_laws = field_laws plain_byte number (field positive members_form) number_w
 -- the word of a step is that of no other line
 basic_line_passed_on : (b : Basic) → read_rows line_read (basic_said b).words ≡ option_map (λ x. lines.Step x) (read_rows step_read (basic_said b).words)
 unfolding line_read line_rows
-basic_line_passed_on (basics.Write client serial o p) = refl
+basic_line_passed_on (basics.Write client serial o c p) = refl
 basic_line_passed_on (basics.Collect group client serial) = refl
 basic_line_passed_on (basics.Pull group osd) = refl
 basic_line_passed_on (basics.Apply group osd) = refl
@@ -306,7 +252,7 @@ line_form_laws : FormLaws plain_byte line_form
 line_form_laws = kinds_laws plain_byte line_said line_read line_kind line_finds
 
 pub basic_has_some : (b : Basic) → has_some (basic_said b).words ≡ true
-basic_has_some (basics.Write client serial o p) = refl
+basic_has_some (basics.Write client serial o c p) = refl
 basic_has_some (basics.Collect group client serial) = refl
 basic_has_some (basics.Pull group osd) = refl
 basic_has_some (basics.Apply group osd) = refl

@@ -1,20 +1,22 @@
 -- How the lines are spelled that do one thing.
 use Rattle.std.specs.Prelude.{ℕ, List, [], ◌∷◌, Option, option_map, codes}
-use Rattle.pgs_words.specs.Forms.{Form, Row, Spelling, field, last, word_then, said, row, by_rows, no_row}
-use Rattle.pgs_words.specs.Fields.{number, dash}
+use Rattle.pgs_words.specs.Forms.{Form, Row, Spelling, field, last, said, row, by_rows, no_row}
+use Rattle.pgs_words.specs.Fields.{number}
 use Rattle.pgs_request.specs.declared.op.Op.{Op}
+use Rattle.pgs_lines.specs.Contexts.{context}
 use Rattle.pgs_lines.specs.Objects.{op, damage, snap, named}
+use Rattle.pgs_lines.specs.declared.context.Context.{Context}
 use Rattle.pgs_lines.specs.declared.damage.Damage.{Damage}
 use Rattle.pgs_lines.specs.declared.snap.Snap.{Snap}
 use Rattle.pgs_lines.specs.declared.basic.Basic.{Basic}
 use Rattle.pgs_lines.specs.declared.basic.Basic.TheVariants as basics
 
--- CLIENT SERIAL SPACE KEY NAME - OP
-abbrev pub write_form : Form (ℕ × (ℕ × (List ℕ × (List ℕ × (List ℕ × Op)))))
-write_form = field number (field number (named (word_then dash op)))
+-- CLIENT SERIAL SPACE KEY NAME CTX OP
+abbrev pub write_form : Form (ℕ × (ℕ × (List ℕ × (List ℕ × (List ℕ × (Context × Op))))))
+write_form = field number (field number (named (field context op)))
 
-abbrev pub write_of : ℕ × (ℕ × (List ℕ × (List ℕ × (List ℕ × Op)))) → Basic
-write_of x = basics.Write x.0 x.1.0 (record { space = x.1.1.0; key = x.1.1.1.0; name = x.1.1.1.1.0 }) x.1.1.1.1.1
+abbrev pub write_of : ℕ × (ℕ × (List ℕ × (List ℕ × (List ℕ × (Context × Op))))) → Basic
+write_of x = basics.Write x.0 x.1.0 (record { space = x.1.1.0; key = x.1.1.1.0; name = x.1.1.1.1.0 }) x.1.1.1.1.1.0 x.1.1.1.1.1.1
 
 -- G CLIENT SERIAL
 abbrev pub collect_form : Form (ℕ × (ℕ × ℕ))
@@ -32,7 +34,7 @@ abbrev pub damage_of : ℕ × (ℕ × (List ℕ × (List ℕ × (List ℕ × (Sn
 damage_of x = basics.Damage x.0 x.1.0 (record { space = x.1.1.0; key = x.1.1.1.0; name = x.1.1.1.1.0 }) x.1.1.1.1.1.0 x.1.1.1.1.1.1
 
 abbrev pub basic_said : Basic → Spelling
-basic_said (basics.Write client serial o p) = said (codes "write") write_form (client, (serial, (o.space, (o.key, (o.name, p)))))
+basic_said (basics.Write client serial o c p) = said (codes "write") write_form (client, (serial, (o.space, (o.key, (o.name, (c, p))))))
 basic_said (basics.Collect group client serial) = said (codes "collect") collect_form (group, (client, serial))
 basic_said (basics.Pull group osd) = said (codes "pull") member_form (group, osd)
 basic_said (basics.Apply group osd) = said (codes "apply") member_form (group, osd)

@@ -13,6 +13,7 @@ use Rattle.pgs_request.specs.declared.answers.CollectAnswer.{CollectAnswer}
 use Rattle.pgs_request.specs.declared.answers.CollectAnswer.TheVariants as collects
 use Rattle.pgs_lines.specs.Objects.{kind_word}
 use Rattle.pgs_lines.specs.Basics.{basic_said}
+use Rattle.pgs_lines.specs.Contexts.{as_printed}
 use Rattle.pgs_lines.specs.Ranges.{as_kept}
 use Rattle.pgs_lines.specs.Scrubs.{begin_words, open_words, close_words}
 use Rattle.pgs_lines.specs.declared.basic.Basic.TheVariants as basics
@@ -28,12 +29,14 @@ version_word version = decimal version.epoch ++ 39 ∷ decimal version.number
 -- ---- answers
 
 abbrev pub refusal_words : Refusal → List (List ℕ)
+refusal_words refusals.NoSuchObject = codes "no-such-object" ∷ []
 refusal_words (refusals.ObjectTooLarge size) = codes "object-too-large" ∷ decimal size ∷ []
 refusal_words (refusals.StoreFull bytes) = codes "store-full" ∷ decimal bytes ∷ []
 refusal_words (refusals.LogFull bytes) = codes "log-full" ∷ decimal bytes ∷ []
 
 abbrev pub declined_words : Declined → List (List ℕ)
 declined_words (declines.Repeat version) = codes "repeat" ∷ version_word version ∷ []
+declined_words (declines.BadSnapContext place) = codes "bad-snap-context" ∷ decimal place ∷ []
 declined_words (declines.Refused refusal) = refusal_words refusal
 
 abbrev pub write_words : WriteAnswer → List (List ℕ)
@@ -52,9 +55,9 @@ apply_words (applies.DeviceFault count) = codes "device-fault" ∷ decimal count
 
 -- ---- lines
 
--- the words of what was done, as a script spells them, with its object as it is kept
+-- the words of what was done, as a script spells them, with its object as it is kept and its context as it is printed
 abbrev pub step_words : Done → List (List ℕ)
-step_words (dones.Write client serial object op answer) = (basic_said (basics.Write client serial (as_kept object) op)).words
+step_words (dones.Write client serial object context op answer) = (basic_said (basics.Write client serial (as_kept object) (as_printed context) op)).words
 step_words (dones.Collect group client serial answer) = (basic_said (basics.Collect group client serial)).words
 step_words (dones.Pull group osd before now) = (basic_said (basics.Pull group osd)).words
 step_words (dones.Apply group osd answer) = (basic_said (basics.Apply group osd)).words
@@ -65,7 +68,7 @@ step_words (dones.Open group answer) = codes "open" ∷ decimal group ∷ []
 step_words (dones.Close group answer) = codes "close" ∷ decimal group ∷ []
 
 abbrev pub answer_words : Done → List (List ℕ)
-answer_words (dones.Write client serial object op answer) = write_words answer
+answer_words (dones.Write client serial object context op answer) = write_words answer
 answer_words (dones.Collect group client serial answer) = collect_words answer
 answer_words (dones.Pull group osd before now) = codes "pulled" ∷ decimal before ∷ decimal now ∷ []
 answer_words (dones.Apply group osd answer) = apply_words answer

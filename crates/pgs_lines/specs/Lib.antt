@@ -1,5 +1,7 @@
 -- How the lines of a script are spelled, and how what was done is printed.
 pub mod Payload
+pub mod Choices
+pub mod Contexts
 pub mod Objects
 pub mod Basics
 pub mod Steps

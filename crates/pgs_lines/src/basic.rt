@@ -1,3 +1,4 @@
+use crate::context::Context;
 use crate::damage::Damage;
 use crate::object::Object;
 use crate::snap::Snap;
@@ -14,6 +15,8 @@ pub enum Basic {
         serial: u32,
         /// The object.
         object: Object,
+        /// The snapshots that the client knows of.
+        context: Context,
         /// What is done to its head.
         op: Op,
     },

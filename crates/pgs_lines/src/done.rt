@@ -6,7 +6,7 @@ use crate::kind::Kind;
 use crate::object::Object;
 use crate::open_answer::OpenAnswer;
 use crate::snap::Snap;
-use pgs_request::{CollectAnswer, Op, WriteAnswer};
+use pgs_request::{CollectAnswer, Op, SnapContext, WriteAnswer};
 
 /// A thing that was done, with its answer. Each is one printed line.
 #[derive(Drop)]
@@ -19,6 +19,8 @@ pub enum Done {
         serial: u32,
         /// The object.
         object: Object,
+        /// The snapshots that the client knew of.
+        context: SnapContext,
         /// What was done to its head.
         op: Op,
         /// The answer.

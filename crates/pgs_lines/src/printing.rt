@@ -1,7 +1,9 @@
 //! How what was done is printed.
 mod answers;
+mod contexts;
 mod lines;
 mod objects;
+mod ops;
 mod ranges;
 mod scrubs;
 mod steps;

@@ -1,7 +1,9 @@
 //! The readers of lines.
 mod basics;
+mod contexts;
 mod lines;
 mod objects;
+mod ops;
 mod payloads;
 mod steps;
 

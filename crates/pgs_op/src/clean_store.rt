@@ -1,4 +1,4 @@
-ghost use Rattle.std.specs.Prelude.{◌≡◌, ◌≤◌, OnOk, OnErr};
+ghost use Rattle.std.specs.Prelude.{◌≡◌, ◌≤◌, IfOk, OnOk, OnErr};
 ghost use Rattle.std.specs.Option.{option_copied};
 ghost use Rattle.pgs_name.specs.declared.object_id.TheConstants.{HEAD};
 ghost use Rattle.pgs_store.specs.Stores.{AreSame, nothing_stored, affected};
@@ -6,8 +6,7 @@ ghost use Rattle.pgs_op.specs.Clean.{clean, held_by, held_with};
 ghost use Rattle.pgs_op.specs.declared.limits.TheConstants.{STORE_MAX};
 
 use crate::held::Held;
-use crate::sizes;
-use crate::write::Write;
+use crate::holding::held_after;
 use pgs_copy::{Effect, ObjCopy};
 use pgs_name::{Family, HEAD};
 use pgs_store::Store;
@@ -53,22 +52,33 @@ impl CleanStore {
     {
         self.held.bytes
     }
+    /// How many bytes they would hold after effects on the copies of a family. A number over 64 bits is refused as want of memory is.
+    pub fn held_with(
+        &self,
+        alloc: Global,
+        family: &Family,
+        effects: &[(u64, Effect)],
+    ) -> Result<u64, AllocError>
+        ensures { IfOk result (λ held. held ≡ held_with self.now family.now effects.now) }
+    {
+        held_after(alloc, self.held.bytes, self.store.copies(family), effects)
+    }
 
-    /// Applies the effects of a write that isn't refused, or none of them where memory runs out.
+    /// Applies effects to the copies of a family, or none of them where memory runs out.
     pub fn apply(
         &mut self,
         alloc: Global,
-        write: &Write,
+        family: &Family,
         effects: &[(u64, Effect)],
     ) -> Result<(), AllocError>
-        requires { held_with self.old write.now ≤ STORE_MAX }
-        ensures ok { OnOk result (AreSame (clean self.new) (affected write.now.family effects.now (clean self.old))) }
-        ensures held { OnOk result (held_by self.new ≡ held_with self.old write.now) }
+        requires { held_with self.old family.now effects.now ≤ STORE_MAX }
+        ensures ok { OnOk result (AreSame (clean self.new) (affected family.now effects.now (clean self.old))) }
+        ensures held { OnOk result (held_by self.new ≡ held_with self.old family.now effects.now) }
         ensures err { OnErr result (AreSame (clean self.new) (clean self.old)) }
         ensures err_held { OnErr result (held_by self.new ≡ held_by self.old) }
     {
-        let bytes = sizes::new_held(self.held.bytes, self.head(&write.family), &write.op);
-        self.store.apply(alloc, &write.family, effects)?;
+        let bytes = self.held_with(alloc, family, effects)?;
+        self.store.apply(alloc, family, effects)?;
         self.held = Held { bytes };
         Ok(())
     }

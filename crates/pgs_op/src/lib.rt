@@ -2,7 +2,12 @@
 #![tactic(auto)]
 
 mod clean_store;
+mod effects;
+mod finding;
+mod head;
 mod held;
+mod holding;
+mod infos;
 mod limits;
 mod making;
 mod sizes;
@@ -10,8 +15,8 @@ mod write;
 mod write_error;
 
 pub use clean_store::CleanStore;
+pub use head::Head;
 pub use limits::{LOG_MAX, OBJECT_MAX, STORE_MAX};
 pub use making::make_effects;
-pub use sizes::counted_size;
 pub use write::Write;
 pub use write_error::WriteError;

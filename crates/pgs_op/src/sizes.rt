@@ -1,43 +1,28 @@
 ghost use Rattle.std.specs.Prelude.{◌≡◌, ◌<◌, ◌^◌};
-ghost use Rattle.std.specs.Option.{option_copied};
-ghost use Rattle.pgs_store.specs.Stores.{copy_size};
-ghost use Rattle.pgs_op.specs.Effects.{size_after, payload_size, held_after};
+ghost use Rattle.pgs_op.specs.Effects as effects;
 
-use pgs_copy::ObjCopy;
 use pgs_request::Op;
 
-/// The size of an object's data after a write.
-pub fn new_size(op: &Op) -> u64
-    ensures { result ≡ size_after op.now }
+/// The size of the head's data after an operation, by the size before.
+pub fn size_after(op: &Op, size: u64) -> u64
+    ensures { result ≡ effects.size_after op.now size }
 {
     match op {
         Op::Full { payload } => payload.size(),
+        Op::Write { at, payload } => written_size(*at, payload.size(), size),
+        Op::Truncate { size } => u64::from(*size),
+        Op::Remove => 0,
+        _ => size,
     }
 }
 
-/// The bytes of a write that the log counts.
-pub fn counted_size(op: &Op) -> u64
-    ensures { result ≡ payload_size op.now }
+// The size of data after a piece of so many bytes was put at a place.
+fn written_size(at: u32, piece: u64, size: u64) -> u64
+    requires { piece < 2 ^ 63 }
+    ensures { result ≡ effects.written_size at piece size }
 {
-    match op {
-        Op::Full { payload } => payload.size(),
+    if piece == 0 {
+        return size;
     }
-}
-
-/// What a store would hold after a write, of what it holds now and the head there.
-pub fn new_held(held: u64, head: Option<&ObjCopy>, op: &Op) -> u64
-    requires { held_after held (option_copied head) op.now < 2 ^ 64 }
-    ensures { result ≡ held_after held (option_copied head.entry) op.now }
-{
-    let size = new_size(op);
-    held.saturating_sub(held_by(head)) + size
-}
-
-fn held_by(head: Option<&ObjCopy>) -> u64
-    ensures { result ≡ copy_size (option_copied head.entry) }
-{
-    match head {
-        Some(copy) => copy.bytes.len() as u64,
-        None => 0,
-    }
+    size.max(u64::from(at) + piece)
 }

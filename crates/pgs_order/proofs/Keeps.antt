@@ -32,7 +32,7 @@ any_more p (x ∷ xs) ys e = one (p x) (list_any p xs) (list_any p (xs ++ ys)) e
     one false b c e h = h e
 
 basic_named_more : (gs more : List Group) (b : Basic) → basic_is_named gs b ≡ true → basic_is_named (gs ++ more) b ≡ true
-basic_named_more gs more (basics.Write client serial object op) e = e
+basic_named_more gs more (basics.Write client serial object context op) e = e
 basic_named_more gs more (basics.Collect group client serial) e = any_more (λ g. g.group == group) gs more e
 basic_named_more gs more (basics.Pull group osd) e = any_more (is_in group osd) gs more e
 basic_named_more gs more (basics.Apply group osd) e = any_more (is_in group osd) gs more e

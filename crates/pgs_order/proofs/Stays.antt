@@ -13,7 +13,7 @@ use Rattle.pgs_lines.specs.declared.line.Line.TheVariants as lines
 use Rattle.pgs_order.specs.Order.{passed}
 
 basic_stays : (b : Basic) → passed (join_with_byte 32 (basic_said b).words) ≡ false
-basic_stays (basics.Write client serial object op) = refl
+basic_stays (basics.Write client serial object context op) = refl
 basic_stays (basics.Collect group client serial) = refl
 basic_stays (basics.Pull group osd) = refl
 basic_stays (basics.Apply group osd) = refl

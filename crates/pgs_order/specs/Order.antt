@@ -1,6 +1,11 @@
 -- Which lines of a script may follow which.
 use Rattle.std.specs.Prelude.{ℕ, ◌==◌, ◌^◌, ◌&&◌, ◌||◌, Bool, true, false, not, nat_lt, nat_le, List, [], ◌∷◌, ◌++◌, length, Option, Some, None, is_some, is_none}
 use Rattle.std.specs.List.{list_any, list_all}
+use Rattle.pgs_request.specs.Payloads.{size_of}
+use Rattle.pgs_request.specs.declared.payload.Payload.{Payload}
+use Rattle.pgs_request.specs.declared.op.Op.{Op}
+use Rattle.pgs_request.specs.declared.op.Op.TheVariants.{SetAttr, SetOmap, SetHeader}
+use Rattle.pgs_lines.specs.Contexts.{meant}
 use Rattle.pgs_lines.specs.declared.basic.Basic.{Basic}
 use Rattle.pgs_lines.specs.declared.basic.Basic.TheVariants as basics
 use Rattle.pgs_lines.specs.declared.step.Step.{Step}
@@ -88,7 +93,7 @@ group_follows declared group members =
 -- whether what a step names is declared: a group, and where it names an OSD, a member of it. A write names neither. Its
 -- object's space, key and name say which group it goes to, and as long as the pool has one group, every object is of it
 abbrev pub basic_is_named : List Group → Basic → Bool
-basic_is_named groups (basics.Write client serial object op) = true
+basic_is_named groups (basics.Write client serial object context op) = true
 basic_is_named groups (basics.Collect group client serial) = has_group groups group
 basic_is_named groups (basics.Pull group osd) = is_member groups group osd
 basic_is_named groups (basics.Apply group osd) = is_member groups group osd
@@ -110,12 +115,31 @@ allows s lines.End = is_none s.declared.bits || are_whole s.declared
 
 -- ---- limits
 
+-- the value of an attribute or of an omap's key has at most 65,536 bytes, and a header too
+abbrev pub is_long : Payload → Bool
+is_long payload = nat_lt 65536 (size_of payload)
+
+abbrev pub op_passes : Op → Bool
+op_passes (SetAttr name payload) = is_long payload
+op_passes (SetOmap key payload) = is_long payload
+op_passes (SetHeader payload) = is_long payload
+op_passes op = false
+
+-- and a context has at most 64 snaps
+abbrev pub basic_passes : Basic → Bool
+basic_passes (basics.Write client serial object context op) = nat_lt 64 (length (meant context).snaps) || op_passes op
+basic_passes basic = false
+
+abbrev pub step_passes : Step → Bool
+step_passes (steps.Basic basic) = basic_passes basic
+step_passes step = false
+
 -- an OSD's number is at most 63, it has at most 8 slots, and there are at most 16 OSDs; a group has at most 8 members
 abbrev pub passes : StepScript → Line → Bool
 passes s (lines.Pool bits) = false
 passes s (lines.Osd osd slots) = nat_lt 63 osd || nat_lt 8 slots || nat_le 16 (length s.declared.osds)
 passes s (lines.Group group epoch members) = nat_lt 8 (length members)
-passes s (lines.Step step) = false
+passes s (lines.Step step) = step_passes step
 passes s lines.End = false
 
 -- ---- what was said with a line more

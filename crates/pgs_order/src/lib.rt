@@ -2,6 +2,7 @@
 #![tactic(auto)]
 
 mod declarations;
+mod limits;
 mod members;
 mod order;
 mod step_script;

@@ -2,6 +2,7 @@ ghost use Rattle.std.specs.Prelude.{◌≡◌, IfOk, OnOk};
 ghost use Rattle.pgs_order.specs.Order as order;
 
 use crate::declarations::{Declarations, Group, Osd};
+use crate::limits::step_passes;
 use crate::members::{
     are_declared, are_distinct, are_whole, has_group, has_osd, is_member, is_of_pool,
 };
@@ -99,6 +100,7 @@ pub fn passes(script: &StepScript, line: &Line) -> bool
     match line {
         Line::Osd { osd, slots } => *osd > 63 || *slots > 8 || script.declared.osds.len() >= 16,
         Line::Group { members, .. } => members.len() > 8,
+        Line::Step { step } => step_passes(step),
         _ => false,
     }
 }

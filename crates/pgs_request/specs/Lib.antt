@@ -1,2 +1,4 @@
 -- What a client asks for.
 pub mod Payloads
+pub mod Ops
+pub mod Contexts

@@ -3,6 +3,8 @@ use crate::version::Version;
 /// Why a write makes no effects. Sizes are in bytes.
 #[derive(Clone, Copy, Debug, PartialEq, Eq, Drop)]
 pub enum Refusal {
+    /// The operation wants a head, and there is none.
+    NoSuchObject,
     /// The object's new size is over the most that an object may have.
     ObjectTooLarge {
         /// The new size.
@@ -27,6 +29,11 @@ pub enum Declined {
     Repeat {
         /// Its version there.
         version: Version,
+    },
+    /// A snap of its context can't stand where it does.
+    BadSnapContext {
+        /// The place of the first such snap, from 0.
+        place: u64,
     },
     /// It makes no effects.
     Refused {

@@ -5,10 +5,14 @@ mod answers;
 mod op;
 mod payload;
 mod req_id;
+mod snap_context;
+mod snaps;
 mod version;
 
 pub use answers::{CollectAnswer, Declined, Refusal, WriteAnswer};
 pub use op::Op;
 pub use payload::Payload;
 pub use req_id::ReqId;
+pub use snap_context::SnapContext;
+pub use snaps::Snaps;
 pub use version::Version;

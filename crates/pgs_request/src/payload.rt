@@ -1,4 +1,4 @@
-ghost use Rattle.std.specs.Prelude.{◌≡◌, IfOk, replicate};
+ghost use Rattle.std.specs.Prelude.{◌≡◌, ◌<◌, ◌^◌, IfOk, replicate};
 ghost use Rattle.pgs_request.specs.Payloads.{bytes_of, size_of};
 
 use pgs_bytes::Bytes;
@@ -29,11 +29,12 @@ pub enum Payload {
 impl Payload {
     /// How many bytes it stands for.
     pub fn size(&self) -> u64
-        ensures { result ≡ size_of self.now }
+        ensures size { result ≡ size_of self.now }
+        ensures small { result < 2 ^ 63 }
     {
         match self {
-            Payload::Text { bytes } => bytes.len() as u64,
-            Payload::Hex { bytes } => bytes.len() as u64,
+            Payload::Text { bytes } => bytes.as_slice().len() as u64,
+            Payload::Hex { bytes } => bytes.as_slice().len() as u64,
             Payload::Fill { count, .. } => u64::from(*count),
         }
     }

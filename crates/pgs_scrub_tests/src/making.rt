@@ -10,7 +10,7 @@ use pgs_map::{Entry, ScrubMap};
 use pgs_name::{HEAD, NameError, ObjectId, compare};
 use pgs_op::Write;
 use pgs_range::FamilyRange;
-use pgs_request::{Op, Payload, ReqId};
+use pgs_request::{Op, Payload, ReqId, SnapContext, Snaps};
 use sqlite_items::Items;
 use std::alloc::{AllocError, Global};
 use std::cmp::Ordering;
@@ -45,6 +45,10 @@ pub fn written(alloc: Global, name: &[u8], serial: u32) -> Result<Write, NameErr
     Ok(Write {
         id: ReqId { client: 1, serial },
         family: id.family,
+        context: SnapContext {
+            seq: 0,
+            snaps: Snaps::new(alloc),
+        },
         op: Op::Full {
             payload: Payload::Text { bytes },
         },

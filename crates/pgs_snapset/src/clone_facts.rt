@@ -1,6 +1,6 @@
 ghost use Rattle.std.specs.Prelude.{◌≡◌};
 
-use crate::snaps::Snaps;
+use pgs_request::Snaps;
 use std::alloc::AllocError;
 
 /// What a snapset tells of a clone.

@@ -4,8 +4,8 @@ ghost use Rattle.std.specs.List.{filter, list_any};
 ghost use Rattle.pgs_snapset.specs.Cloning.{clone_made};
 
 use crate::clone_facts::CloneFacts;
-use crate::snaps::Snaps;
 use crate::snapset::SnapSet;
+use pgs_request::Snaps;
 use std::alloc::{AllocError, Global};
 
 /// The clone that a write with a context of a seq and snaps makes of a head of a size.

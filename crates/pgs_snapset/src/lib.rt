@@ -6,11 +6,9 @@ mod clones;
 mod cloning;
 mod forming;
 mod reading;
-mod snaps;
 mod snapset;
 mod writing;
 
 pub use clone_facts::CloneFacts;
 pub use clones::Clones;
-pub use snaps::Snaps;
 pub use snapset::SnapSet;

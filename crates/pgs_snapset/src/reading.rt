@@ -6,9 +6,9 @@ ghost use Rattle.pgs_snapset.specs.Spelling.{clone, marks, snapset};
 
 use crate::clone_facts::CloneFacts;
 use crate::clones::Clones;
-use crate::snaps::Snaps;
 use crate::snapset::SnapSet;
 use pgs_codec::{FieldError, Reader};
+use pgs_request::Snaps;
 use std::alloc::Global;
 
 /// The snapset at the front of what is left.

@@ -1,10 +1,9 @@
 -- Stores: which copy of which object is there.
-use Rattle.std.specs.Prelude.{ℕ, Bool, ◌≡◌, List, [], ◌∷◌, ◌++◌, length, Option, Some, None, is_some, if◌then◌else◌}
-use Rattle.std.specs.List.{list_any}
+use Rattle.std.specs.Prelude.{ℕ, Bool, ◌≡◌, List, Option, Some, None, is_some, if◌then◌else◌}
 use Rattle.pgs_name.specs.Families.{same_family}
 use Rattle.pgs_name.specs.Families.{Family}
 use Rattle.pgs_name.specs.declared.object_id.ObjectId.{ObjectId}
-use Rattle.pgs_copy.specs.Copies.{no_copies, after_effects, after_damage}
+use Rattle.pgs_copy.specs.Copies.{no_copies, after_effects, after_damage, copy_bytes}
 use Rattle.pgs_copy.specs.declared.obj_copy.ObjCopy.{ObjCopy}
 use Rattle.pgs_copy.specs.declared.effect.Effect.{Effect}
 use Rattle.pgs_copy.specs.declared.damage.Damage.{Damage}
@@ -33,11 +32,7 @@ affected family effects stored f q = if same_family family f then after_effects 
 abbrev pub harmed : Family → ℕ → Damage → Stored → Stored
 harmed family snap damage stored f q = if same_family family f then after_damage snap damage (stored f) q else stored f q
 
--- the bytes of a copy's data: none where it isn't there
+-- the bytes of a copy, in all its parts: none where it isn't there
 abbrev pub copy_size : Option ObjCopy → ℕ
 copy_size None = 0
-copy_size (Some copy) = length copy.bytes
-
--- a list of families with one more, at its end, unless it has it
-abbrev pub noted : Family → List Family → List Family
-noted family families = if list_any (same_family family) families then families else families ++ family ∷ []
+copy_size (Some copy) = copy_bytes copy

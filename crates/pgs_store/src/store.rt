@@ -6,7 +6,7 @@ ghost use Rattle.pgs_name.specs.Families.{same_family};
 ghost use Rattle.pgs_name.specs.Families.{Family as FamilyName};
 ghost use Rattle.pgs_range.specs.Listed.{IsNext};
 ghost use Rattle.pgs_store.specs.Stores.{AreSame, nothing_stored, is_stored, affected, harmed};
-ghost use Rattle.pgs_store.specs.Kept.{stored};
+ghost use Rattle.pgs_store.specs.Kept.{stored, in_map};
 
 use crate::firsts;
 use pgs_copy::{Damage, Effect, ObjCopy, apply_damage, apply_effects};
@@ -29,6 +29,13 @@ impl Store {
         Store {
             families: BTreeMap::new(alloc),
         }
+    }
+
+    /// The copies of a family by snap, where the store has a map of them, which may be empty.
+    pub fn copies(&self, family: &Family) -> Option<&BTreeMap<u64, ObjCopy>>
+        ensures { in_map (option_copied result) ≡ stored self.now family.now }
+    {
+        self.families.get(family)
     }
 
     /// The copy at a snap of a family.

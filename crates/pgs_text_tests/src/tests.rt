@@ -1,6 +1,7 @@
 //! Each file tests one topic.
 mod lines;
 mod objects;
+mod operations;
 mod printed;
 mod printing;
 mod scripts;

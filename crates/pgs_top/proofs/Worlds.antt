@@ -20,7 +20,7 @@ use Rattle.pgs_world.specs.Sound.{IsSound}
 use Rattle.pgs_top.specs.Histories.{made_of, OfWorld}
 
 step_named : (settings : Settings) (group : Group) (step : Step) → IsGroup group → step_is_named (group ∷ []) step ≡ true → IsNamedStep (made_of settings group) step
-step_named settings group (steps.Basic (basics.Write client serial object op)) is e = tt
+step_named settings group (steps.Basic (basics.Write client serial object context op)) is e = tt
 step_named settings group (steps.Basic (basics.Collect g client serial)) is e = tt
 step_named settings group (steps.Basic (basics.Pull g osd)) is e = (names_member group g osd is e).1
 step_named settings group (steps.Basic (basics.Apply g osd)) is e = tt

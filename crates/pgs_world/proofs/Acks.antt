@@ -4,6 +4,7 @@ use Rattle.std.specs.List.{AllByRecursion, list_any}
 use Rattle.std.proofs.lemmas.Bool.Decides.{nat_tests}
 use Rattle.pgs_bytes.proofs.Facts.{none_some, some_none}
 use Rattle.pgs_request.specs.declared.req_id.ReqId.{ReqId}
+use Rattle.pgs_request.specs.declared.snap_context.SnapContext.{SnapContext}
 use Rattle.pgs_request.specs.declared.version.Version.{Version}
 use Rattle.pgs_request.specs.declared.op.Op.{Op}
 use Rattle.pgs_request.specs.declared.answers.WriteAnswer.{WriteAnswer}
@@ -93,7 +94,7 @@ holds_on a b id version legal grows h =
     }
 
 still : (a b : WorldState) (done : Done) → IsLegal b.made b.past → Grows a b → StillHolds a done → StillHolds b done
-still a b (dones.Write client serial object op answer) legal grows h = tt
+still a b (dones.Write client serial object context op answer) legal grows h = tt
 still a b (dones.Collect group client serial Unknown) legal grows h = tt
 still a b (dones.Collect group client serial (NotYet osd count)) legal grows h = tt
 still a b (dones.Collect group client serial (Acked version)) legal grows h = holds_on a b (id_of client serial) version legal grows h
@@ -129,11 +130,11 @@ submit_tells past write answer osd = omega arith
 at_least : (n m : ℕ) → n ≡ m → n ≤ m
 at_least n m e = omega (arith, e)
 
-pub grows_write : (w : WorldState) (client serial : ℕ) (object : Object) (op : Op) → AreInStep (after_write w client serial object op)
-    → Grows w (after_write w client serial object op)
-grows_write w client serial object op h = record {
+pub grows_write : (w : WorldState) (client serial : ℕ) (object : Object) (context : SnapContext) (op : Op) → AreInStep (after_write w client serial object context op)
+    → Grows w (after_write w client serial object context op)
+grows_write w client serial object context op h = record {
   same = refl;
-  kept = submit_keeps w.made w.past (write_of client serial object op) (submit_answer w.made w.past (write_of client serial object op)) h.legal;
+  kept = submit_keeps w.made w.past (write_of client serial object context op) (submit_answer w.made w.past (write_of client serial object context op)) h.legal;
   tells = λ osd. omega arith;
   applies = λ osd. omega arith;
 }

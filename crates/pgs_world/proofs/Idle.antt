@@ -1,5 +1,5 @@
 -- Between the steps of a script no scrub runs.
-use Rattle.std.proofs.Common.{◌≡◌, ℕ, zero, suc, nat_lt, Bool, true, false, cond, List, [], ◌∷◌, None, refl, ap, ◌∙◌}
+use Rattle.std.proofs.Common.{◌≡◌, ℕ, zero, suc, nat_lt, true, false, cond, List, [], ◌∷◌, None, refl, ap, ◌∙◌}
 use Rattle.pgs_request.specs.declared.req_id.ReqId.{ReqId}
 use Rattle.pgs_request.specs.declared.answers.CollectAnswer.{CollectAnswer}
 use Rattle.pgs_request.specs.declared.answers.CollectAnswer.TheVariants.{Unknown, NotYet, Acked}
@@ -17,7 +17,7 @@ use Rattle.pgs_history.proofs.Fates.{fated}
 use Rattle.pgs_history.proofs.Rows.{tiled}
 use Rattle.pgs_history.specs.declared.made.Made.{Made}
 use Rattle.pgs_world.specs.State.{WorldState, opening}
-use Rattle.pgs_world.specs.Basics.{id_of, after_basic, after_pulling, after_telling, after_applying, applied_by}
+use Rattle.pgs_world.specs.Basics.{id_of, after_basic, after_pulling, after_applying, applied_by}
 use Rattle.pgs_world.specs.Steps.{waiting, applied_times, applied_all, member_settled, settled, after_step}
 use Rattle.pgs_world.specs.Sound.{IsSound}
 use Rattle.pgs_world.specs.Scrubbed.{AreScrubbed}
@@ -48,7 +48,7 @@ tell_runs past osd applied =
     ])
 
 basic_runs : (w : WorldState) (basic : Basic) → running (after_basic w basic).past ≡ running w.past
-basic_runs w (basics.Write client serial object op) = refl
+basic_runs w (basics.Write client serial object context op) = refl
 basic_runs w (basics.Collect group client serial) = collected_runs w.past (id_of client serial) (collect_answer w.made w.past (id_of client serial))
 basic_runs w (basics.Pull group osd) = pull_runs w.past osd
 basic_runs w (basics.Apply group osd) = refl

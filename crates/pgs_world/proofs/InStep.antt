@@ -3,6 +3,7 @@ use Rattle.std.proofs.Common.{◌≡◌, ℕ, suc, ◌+◌, ◌<◌, ◌≤◌, 
 use Rattle.std.specs.List.{list_any}
 use Rattle.std.proofs.lemmas.Bool.Decides.{nat_tests, eqb_tells}
 use Rattle.pgs_request.specs.declared.req_id.ReqId.{ReqId}
+use Rattle.pgs_request.specs.declared.snap_context.SnapContext.{SnapContext}
 use Rattle.pgs_request.specs.declared.op.Op.{Op}
 use Rattle.pgs_request.specs.declared.answers.WriteAnswer.{WriteAnswer}
 use Rattle.pgs_request.specs.declared.answers.WriteAnswer.TheVariants.{Declined, Accepted}
@@ -158,13 +159,13 @@ one_event w done osd event h here = record {
   ];
 }
 
-pub in_write : (w : WorldState) (client serial : ℕ) (object : Object) (op : Op) → AreInStep w → AreInStep (after_write w client serial object op)
-in_write w client serial object op h =
-    let legal = legal_submit w.made w.past (write_of client serial object op) h.legal in
+pub in_write : (w : WorldState) (client serial : ℕ) (object : Object) (context : SnapContext) (op : Op) → AreInStep w → AreInStep (after_write w client serial object context op)
+in_write w client serial object context op h =
+    let legal = legal_submit w.made w.past (write_of client serial object context op) h.legal in
     record {
       legal = legal;
       named = h.named;
-      each = λ osd member. submitted w.made w.past (write_of client serial object op) (submit_answer w.made w.past (write_of client serial object op)) osd (past_in w.members osd) legal (h.each osd member);
+      each = λ osd member. submitted w.made w.past (write_of client serial object context op) (submit_answer w.made w.past (write_of client serial object context op)) osd (past_in w.members osd) legal (h.each osd member);
     }
 
 pub in_collect : (w : WorldState) (group client serial : ℕ) → AreInStep w → AreInStep (after_collecting w group client serial)

@@ -19,7 +19,7 @@ use Rattle.pgs_world.proofs.Walks.{swept_made}
 use Rattle.pgs_world.proofs.Idle.{scrubbed_where}
 
 basic_made : (w : WorldState) (basic : Basic) → (after_basic w basic).made ≡ w.made
-basic_made w (basics.Write client serial object op) = refl
+basic_made w (basics.Write client serial object context op) = refl
 basic_made w (basics.Collect group client serial) = refl
 basic_made w (basics.Pull group osd) = refl
 basic_made w (basics.Apply group osd) = refl

@@ -1,10 +1,7 @@
 -- Every step of a scrub keeps what is sound.
-use Rattle.std.proofs.Common.{◌≡◌, ℕ, ◌+◌, ◌<◌, ◌≤◌, ◌==◌, Bool, true, false, cond, List, [], ◌∷◌, ◌++◌, length, drop, get_or, reverse, Option, Some, None, refl, sym, ap, ◌∙◌, subst, arith}
-use Rattle.std.specs.Prelude.{is_some}
+use Rattle.std.proofs.Common.{◌≡◌, ℕ, ◌+◌, ◌<◌, ◌≤◌, List, [], ◌∷◌, length, drop, get_or, Option, Some, None, refl, sym, ap, ◌∙◌, subst, arith}
 use Rattle.std.specs.List.{AllByRecursion}
 use Rattle.std.proofs.lemmas.List.{drop_more, drop_all}
-use Rattle.pgs_request.specs.declared.req_id.ReqId.{ReqId}
-use Rattle.pgs_request.specs.declared.version.Version.{Version}
 use Rattle.pgs_name.specs.declared.object_id.ObjectId.{ObjectId}
 use Rattle.pgs_range.specs.declared.bound.Bound.{Bound}
 use Rattle.pgs_chunk.specs.Positions.{Ascends}
@@ -19,7 +16,7 @@ use Rattle.pgs_op_log.specs.Logs.{version_in}
 use Rattle.pgs_history.specs.Log.{log, ids}
 use Rattle.pgs_history.specs.Members.{pulled, told}
 use Rattle.pgs_history.specs.Scrubs.{running, opened, open_chunk, start, limit_now}
-use Rattle.pgs_history.specs.Answers.{begin_answer, close_answer, primary}
+use Rattle.pgs_history.specs.Answers.{close_answer, primary}
 use Rattle.pgs_history.specs.After.{after_closed}
 use Rattle.pgs_history.specs.Legal.{IsLegal}
 use Rattle.pgs_history.specs.Facts.{upto}
@@ -35,7 +32,7 @@ use Rattle.pgs_shard.proofs.Positions.{are_positions}
 use Rattle.pgs_shards.specs.Members.{Member, past_in}
 use Rattle.pgs_world.specs.State.{WorldState}
 use Rattle.pgs_world.specs.Scrubs.{past_of, held, listed_beside, listed_now, past_opened, opening_said, after_beginning, after_opening, taking, after_taking, all_taken, after_closing, chunk_done}
-use Rattle.pgs_world.specs.Counts.{AreInStep, IsInStep}
+use Rattle.pgs_world.specs.Counts.{AreInStep}
 use Rattle.pgs_world.specs.Acknowledged.{StillHolds}
 use Rattle.pgs_world.specs.Cited.{AreCited}
 use Rattle.pgs_world.specs.Sound.{IsSound}

@@ -11,6 +11,7 @@ use Rattle.pgs_lines.specs.declared.step.Step.{Step}
 use Rattle.pgs_lines.specs.declared.step.Step.TheVariants as steps
 use Rattle.pgs_lines.specs.declared.done.Done.{Done}
 use Rattle.pgs_world.specs.State.{WorldState, opening}
+use Rattle.pgs_lines.specs.Contexts.{meant}
 use Rattle.pgs_world.specs.Basics.{id_of, family_of, snap_of, damage_of, after_basic, after_write, after_collecting, after_pulling, after_telling, after_applying, after_damaging}
 use Rattle.pgs_world.specs.Steps.{waiting, applied_times, applied_all, member_settled, settled, after_step, after_steps}
 use Rattle.pgs_world.specs.Counts.{AreInStep}
@@ -42,9 +43,9 @@ sound_telling : (w : WorldState) (group osd : ℕ) → IsSound w → IsSound (af
 sound_telling w group osd s = kept_sound w (after_telling w group osd) _ s (in_tell w group osd s.in_step) (grows_tell w group osd) refl tt (cited_tell w group osd s.cited)
 
 pub sound_basic : (w : WorldState) (basic : Basic) → IsSound w → IsSound (after_basic w basic)
-sound_basic w (basics.Write client serial object op) s =
-    let after = in_write w client serial object op s.in_step in
-    kept_sound w (after_write w client serial object op) _ s after (grows_write w client serial object op after) refl tt (tt, s.cited)
+sound_basic w (basics.Write client serial object context op) s =
+    let after = in_write w client serial object (meant context) op s.in_step in
+    kept_sound w (after_write w client serial object (meant context) op) _ s after (grows_write w client serial object (meant context) op after) refl tt (tt, s.cited)
 sound_basic w (basics.Collect group client serial) s =
     let after = in_collect w group client serial s.in_step in
     kept_sound w (after_collecting w group client serial) _ s after (grows_collect w group client serial) refl

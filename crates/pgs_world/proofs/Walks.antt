@@ -4,16 +4,13 @@ use Rattle.std.specs.Prelude.{is_some, is_none, option_map}
 use Rattle.std.specs.Bool.{then_some}
 use Rattle.std.specs.List.{AllByRecursion}
 use Rattle.std.proofs.lemmas.Bool.Decides.{nat_tests}
-use Rattle.pgs_bytes.proofs.Facts.{none_some, some_same, true_false}
+use Rattle.pgs_bytes.proofs.Facts.{none_some, true_false}
 use Rattle.pgs_name.specs.declared.object_id.ObjectId.{ObjectId}
 use Rattle.pgs_range.specs.declared.bound.Bound.{Bound}
-use Rattle.pgs_range.specs.declared.bound.Bound.TheVariants.{Min, At, Max}
-use Rattle.pgs_range.specs.declared.family_range.FamilyRange.{FamilyRange}
 use Rattle.pgs_chunk.specs.Positions.{Ascends}
 use Rattle.pgs_chunk.specs.Selection.{from_start}
 use Rattle.pgs_chunk.specs.Next.{next_position}
 use Rattle.pgs_chunk.specs.Chunk.{bound_at, chunk_of}
-use Rattle.pgs_chunk.specs.Listings.{listing}
 use Rattle.pgs_chunk.proofs.Chunks.{chunk_progress}
 use Rattle.pgs_chunk.proofs.Listings.{chunk_early}
 use Rattle.pgs_chunk.proofs.Lists.{filter_shorter}
@@ -21,20 +18,18 @@ use Rattle.pgs_range.specs.Ranges.{is_at_most}
 use Rattle.pgs_lines.specs.declared.kind.Kind.{Kind}
 use Rattle.pgs_lines.specs.declared.done.Done.TheVariants as dones
 use Rattle.pgs_map.specs.declared.scrub_map.ScrubMap.{ScrubMap}
-use Rattle.pgs_op.specs.Effects.{first}
+use Rattle.pgs_op.specs.Refusals.{first}
 use Rattle.pgs_history.specs.Scrubs.{begun, running, opened, open_chunk, has_number, is_open, start, end_of, limit_now, taken}
-use Rattle.pgs_history.specs.Answers.{begin_answered, begin_answer, or_closed, open_answered, next_chunk, taken_by, unclosed, missing, found, is_greatest, is_last, close_answer}
+use Rattle.pgs_history.specs.Answers.{begin_answered, begin_answer, or_closed, open_answered, next_chunk, taken_by, unclosed, found, is_greatest, is_last, close_answer}
 use Rattle.pgs_history.specs.After.{after_closed}
-use Rattle.pgs_history.specs.declared.made.Made.{Made}
 use Rattle.pgs_history.specs.declared.chunk.Chunk.{Chunk}
 use Rattle.pgs_history.specs.declared.begin_answer.BeginAnswer.{BeginAnswer}
 use Rattle.pgs_history.specs.declared.begin_answer.BeginAnswer.TheVariants as begins
-use Rattle.pgs_history.specs.declared.open_answer.OpenAnswer.TheVariants.{Opened}
 use Rattle.pgs_history.specs.declared.take_answer.TakeAnswer.TheVariants.{Stale, Taken}
 use Rattle.pgs_history.specs.declared.close_answer.CloseAnswer.{CloseAnswer}
 use Rattle.pgs_history.specs.declared.close_answer.CloseAnswer.TheVariants as closes
 use Rattle.pgs_history.specs.declared.event.Event.{Event}
-use Rattle.pgs_history.specs.declared.event.Event.TheVariants.{Open, Take, Close}
+use Rattle.pgs_history.specs.declared.event.Event.TheVariants.{Open, Take}
 use Rattle.pgs_history.proofs.Rows.{IsWalk, walked as walks}
 use Rattle.pgs_history.proofs.Steps.{began_is}
 use Rattle.pgs_shards.specs.Members.{past_in}

@@ -1,8 +1,9 @@
 -- What a single step does, and the answer that is kept with it.
 use Rattle.std.specs.Prelude.{ℕ, nat_lt, ◌∷◌, reverse, if◌then◌else◌}
+use Rattle.pgs_lines.specs.Contexts.{meant}
 use Rattle.pgs_lines.specs.declared.object.Object.{Object}
 use Rattle.pgs_lines.specs.declared.snap.Snap.{Snap}
-use Rattle.pgs_lines.specs.declared.snap.Snap.TheVariants.{Head}
+use Rattle.pgs_lines.specs.declared.snap.Snap.TheVariants.{Head, Clone}
 use Rattle.pgs_lines.specs.declared.damage.Damage.{Damage as LineDamage}
 use Rattle.pgs_lines.specs.declared.damage.Damage.TheVariants as line_damages
 use Rattle.pgs_lines.specs.declared.basic.Basic.{Basic}
@@ -16,6 +17,7 @@ use Rattle.pgs_copy.specs.declared.damage.Damage.{Damage}
 use Rattle.pgs_copy.specs.declared.damage.Damage.TheVariants.{Flip}
 use Rattle.pgs_request.specs.declared.op.Op.{Op}
 use Rattle.pgs_request.specs.declared.req_id.ReqId.{ReqId}
+use Rattle.pgs_request.specs.declared.snap_context.SnapContext.{SnapContext}
 use Rattle.pgs_op.specs.declared.write.Write.{Write}
 use Rattle.pgs_op_log.specs.Logs.{newer}
 use Rattle.pgs_history.specs.Log.{log}
@@ -38,6 +40,7 @@ family_of object = family_named object.space object.key object.name
 
 abbrev pub snap_of : Snap → ℕ
 snap_of Head = HEAD
+snap_of (Clone snap) = snap
 
 abbrev pub damage_of : LineDamage → Damage
 damage_of (line_damages.Flip at xor) = Flip at xor
@@ -45,15 +48,15 @@ damage_of (line_damages.Flip at xor) = Flip at xor
 abbrev pub id_of : ℕ → ℕ → ReqId
 id_of client serial = record { client = client; serial = serial }
 
-abbrev pub write_of : ℕ → ℕ → Object → Op → Write
-write_of client serial object op = record { id = id_of client serial; family = family_of object; op = op }
+abbrev pub write_of : ℕ → ℕ → Object → SnapContext → Op → Write
+write_of client serial object context op = record { id = id_of client serial; family = family_of object; context = context; op = op }
 
 -- ---- the group's steps
 
-abbrev pub after_write : WorldState → ℕ → ℕ → Object → Op → WorldState
-after_write w client serial object op = record w {
-  past = after_submit w.made w.past (write_of client serial object op);
-  done = dones.Write client serial object op (submit_answer w.made w.past (write_of client serial object op)) ∷ w.done;
+abbrev pub after_write : WorldState → ℕ → ℕ → Object → SnapContext → Op → WorldState
+after_write w client serial object context op = record w {
+  past = after_submit w.made w.past (write_of client serial object context op);
+  done = dones.Write client serial object context op (submit_answer w.made w.past (write_of client serial object context op)) ∷ w.done;
 }
 
 abbrev pub after_collecting : WorldState → ℕ → ℕ → ℕ → WorldState
@@ -105,7 +108,7 @@ after_damaging w group osd object snap damage = record w {
 -- ---- any of them
 
 abbrev pub after_basic : WorldState → Basic → WorldState
-after_basic w (basics.Write client serial object op) = after_write w client serial object op
+after_basic w (basics.Write client serial object context op) = after_write w client serial object (meant context) op
 after_basic w (basics.Collect group client serial) = after_collecting w group client serial
 after_basic w (basics.Pull group osd) = after_pulling w group osd
 after_basic w (basics.Apply group osd) = after_applying w group osd

@@ -6,7 +6,7 @@ use pgs_copy::Damage;
 use pgs_lines::{Object, Snap};
 use pgs_name::{Family, HEAD};
 use pgs_op::Write;
-use pgs_request::{Op, ReqId};
+use pgs_request::{Op, ReqId, SnapContext};
 use std::alloc::AllocError;
 
 /// The family of an object.
@@ -20,13 +20,25 @@ pub fn family_of(object: &Object) -> Result<Family, AllocError>
 }
 
 /// The write that a line asks for.
-pub fn write_of(client: u32, serial: u32, object: &Object, op: &Op) -> Result<Write, AllocError>
-    ensures { IfOk result (λ write. write ≡ basics.write_of client serial object.now op.now) }
+pub fn write_of(
+    client: u32,
+    serial: u32,
+    object: &Object,
+    context: &SnapContext,
+    op: &Op,
+) -> Result<Write, AllocError>
+    ensures { IfOk result (λ write. write ≡ basics.write_of client serial object.now context.now op.now) }
 {
     let family = family_of(object)?;
+    let context = context.clone()?;
     let op = op.clone()?;
     let id = ReqId { client, serial };
-    Ok(Write { id, family, op })
+    Ok(Write {
+        id,
+        family,
+        context,
+        op,
+    })
 }
 
 pub fn snap_of(snap: Snap) -> u64
@@ -34,6 +46,7 @@ pub fn snap_of(snap: Snap) -> u64
 {
     match snap {
         Snap::Head => HEAD,
+        Snap::Clone { snap } => u64::from(snap),
     }
 }
 

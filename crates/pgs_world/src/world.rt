@@ -7,11 +7,12 @@ ghost use Rattle.pgs_world.specs.Steps as steps;
 ghost use Rattle.pgs_world.specs.Counts.{is_member, AreInStep, IsNamed, IsNamedStep, AreNamed};
 ghost use Rattle.pgs_world.specs.Sound.{IsSound};
 ghost use Rattle.pgs_world.specs.Scrubbed.{AreScrubbed};
+ghost use Rattle.pgs_lines.specs.Contexts.{meant};
 
 use crate::naming::{damage_of, family_of, snap_of, write_of};
 use pgs_group::Group;
 use pgs_history::Made;
-use pgs_lines::{ApplyAnswer, Basic, Damage, Done, Object, Snap, Step};
+use pgs_lines::{ApplyAnswer, Basic, Context, Damage, Done, Object, Snap, Step};
 use pgs_request::{Op, ReqId};
 use pgs_shard::Applied;
 use pgs_shards::Shards;
@@ -82,19 +83,22 @@ impl World {
         client: u32,
         serial: u32,
         object: &Object,
+        context: &Context,
         op: &Op,
     ) -> Result<(), AllocError>
-        ensures { OnOk result (self.new ≡ basics.after_write self.old client serial object.now op.now) }
+        ensures { OnOk result (self.new ≡ basics.after_write self.old client serial object.now (meant context.now) op.now) }
     {
         self.done.reserve(1)?;
-        let write = write_of(client, serial, object, op)?;
+        let context = context.meant(self.alloc)?;
+        let write = write_of(client, serial, object, &context, op)?;
+        let answer = self.group.submit(write)?;
         let object = object.clone()?;
         let op = op.clone()?;
-        let answer = self.group.submit(write)?;
         self.done.push_reserved(Done::Write {
             client,
             serial,
             object,
+            context,
             op,
             answer,
         });
@@ -212,8 +216,9 @@ impl World {
                 client,
                 serial,
                 object,
+                context,
                 op,
-            } => self.write(*client, *serial, object, op),
+            } => self.write(*client, *serial, object, context, op),
             Basic::Collect {
                 group,
                 client,

@@ -1,6 +1,6 @@
-use crate::tests::making::{REQUEST, made, write};
+use crate::tests::making::{REQUEST, made, write, write_with};
 use pgs_group::{Answer, Counts, Group, Step};
-use pgs_request::{CollectAnswer, Declined, Version, WriteAnswer};
+use pgs_request::{CollectAnswer, Declined, SnapContext, Snaps, Version, WriteAnswer};
 use std::alloc::{AllocError, Global};
 use std::test::Fail;
 
@@ -51,6 +51,24 @@ fn acknowledged_once_all_told(rt: HostRuntime) -> Result<(), Fail> {
     assert!(rt; collected(alloc, 0)? == CollectAnswer::NotYet { osd: 2, told: 0 });
     assert!(rt; collected(alloc, 1)? == CollectAnswer::NotYet { osd: 0, told: 0 });
     assert!(rt; collected(alloc, 2)? == CollectAnswer::Acked { version: VERSION });
+    Ok(())
+}
+
+// A write whose second snap isn't below its first.
+fn misplaced(alloc: Global) -> Result<WriteAnswer, AllocError> {
+    let made = made(alloc)?;
+    let mut group = Group::new(alloc, made);
+    let snaps = vec![in alloc; 3, 3]?;
+    let snaps = Snaps::from_vec(snaps);
+    let write = write_with(alloc, SnapContext { seq: 5, snaps })?;
+    group.submit(write)
+}
+
+#[test]
+fn a_snap_that_is_not_below_the_one_before(rt: HostRuntime) -> Result<(), Fail> {
+    let answer = misplaced(rt.alloc())?;
+    let declined = Declined::BadSnapContext { place: 1 };
+    assert!(rt; answer == WriteAnswer::Declined { declined });
     Ok(())
 }
 

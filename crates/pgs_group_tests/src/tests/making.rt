@@ -6,7 +6,7 @@ use pgs_chunk::Limits;
 use pgs_history::Made;
 use pgs_name::Family;
 use pgs_op::Write;
-use pgs_request::{Op, Payload, ReqId};
+use pgs_request::{Op, Payload, ReqId, SnapContext, Snaps};
 use sqlite_items::Items;
 use std::alloc::{AllocError, Global};
 
@@ -35,13 +35,20 @@ pub const REQUEST: ReqId = ReqId {
     serial: 7,
 };
 
-// A write of three bytes.
+// A write of three bytes, of a client that knows of no snapshot.
 pub fn write(alloc: Global) -> Result<Write, AllocError> {
+    let snaps = Snaps::new(alloc);
+    write_with(alloc, SnapContext { seq: 0, snaps })
+}
+
+// The same of a client that knows of these snapshots.
+pub fn write_with(alloc: Global, context: SnapContext) -> Result<Write, AllocError> {
     let family = family(alloc)?;
     let payload = Payload::Fill { count: 3, byte: 97 };
     Ok(Write {
         id: REQUEST,
         family,
+        context,
         op: Op::Full { payload },
     })
 }

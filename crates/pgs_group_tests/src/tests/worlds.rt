@@ -4,8 +4,8 @@ use pgs_world::World;
 use std::alloc::{AllocError, Global};
 use std::test::Fail;
 
-// How many things are done by a step, a settling and a sweep of two members.
-fn done(alloc: Global) -> Result<usize, AllocError> {
+// How many things are done by a single step.
+fn collected(alloc: Global) -> Result<usize, AllocError> {
     let made = made(alloc)?;
     let mut world = World::new(alloc, made)?;
     let collect = Basic::Collect {
@@ -13,15 +13,32 @@ fn done(alloc: Global) -> Result<usize, AllocError> {
         client: 1,
         serial: 1,
     };
-    world.basic(&collect)?;
-    world.step(&Step::Settle { group: 0 })?;
+    let result = world.basic(&collect);
+    drop(collect);
+    result?;
+    Ok(world.done().len())
+}
+
+// How many things are done by a sweep of two members, which settles them.
+fn swept(alloc: Global) -> Result<usize, AllocError> {
+    let made = made(alloc)?;
+    let mut world = World::new(alloc, made)?;
     let kind = Kind::Deep;
-    world.step(&Step::Sweep { group: 0, kind })?;
+    let sweep = Step::Sweep { group: 0, kind };
+    let result = world.step(&sweep);
+    drop(sweep);
+    result?;
     Ok(world.done().len())
 }
 
 #[test]
-fn steps_of_a_world(rt: HostRuntime) -> Result<(), Fail> {
-    assert_eq!(rt; done(rt.alloc())?, 16);
+fn a_single_step(rt: HostRuntime) -> Result<(), Fail> {
+    assert_eq!(rt; collected(rt.alloc())?, 1);
+    Ok(())
+}
+
+#[test]
+fn a_sweep(rt: HostRuntime) -> Result<(), Fail> {
+    assert_eq!(rt; swept(rt.alloc())?, 9);
     Ok(())
 }

@@ -41,6 +41,7 @@ fn push_refusal(alloc: Global, refusal: Refusal, out: &mut Vec<u8>) -> Result<()
     ensures { OnOk result (out.new.items ≡ out.old.items ++ behind (done.refusal_words refusal)) }
 {
     match refusal {
+        Refusal::NoSuchObject => push_word(b"no-such-object", out),
         Refusal::ObjectTooLarge { size } => push_count(alloc, b"object-too-large", size, out),
         Refusal::StoreFull { bytes } => push_count(alloc, b"store-full", bytes, out),
         Refusal::LogFull { bytes } => push_count(alloc, b"log-full", bytes, out),
@@ -52,6 +53,7 @@ fn push_declined(alloc: Global, declined: Declined, out: &mut Vec<u8>) -> Result
 {
     match declined {
         Declined::Repeat { version } => push_at(alloc, b"repeat", version, out),
+        Declined::BadSnapContext { place } => push_count(alloc, b"bad-snap-context", place, out),
         Declined::Refused { refusal } => push_refusal(alloc, refusal, out),
     }
 }

@@ -18,9 +18,10 @@ fn push_step(alloc: Global, done: &Done, out: &mut Vec<u8>) -> Result<(), AllocE
             client,
             serial,
             object,
+            context,
             op,
             ..
-        } => push_write(alloc, *client, *serial, object, op, out),
+        } => push_write(alloc, *client, *serial, object, context, op, out),
         Done::Collect {
             group,
             client,

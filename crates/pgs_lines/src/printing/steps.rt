@@ -1,29 +1,20 @@
 ghost use Rattle.std.specs.Prelude.{◌≡◌, ◌++◌, ◌∷◌, [], OnOk, codes};
 ghost use Rattle.pgs_lines.specs.Objects as objects;
 ghost use Rattle.pgs_lines.specs.Basics as basics;
+ghost use Rattle.pgs_lines.specs.Contexts.{as_printed};
 ghost use Rattle.pgs_lines.specs.Done.{behind, begins};
 ghost use Rattle.pgs_lines.specs.Ranges.{as_kept};
 ghost use Rattle.pgs_lines.specs.declared.basic.Basic.TheVariants as said;
 
+use super::contexts::push_context;
 use super::objects::push_object;
-use super::words::{push_number, push_payload, push_word};
+use super::ops::push_op;
+use super::words::{push_number, push_word};
 use crate::damage::Damage;
 use crate::object::Object;
 use crate::snap::Snap;
-use pgs_request::Op;
+use pgs_request::{Op, SnapContext};
 use std::alloc::{AllocError, Global};
-
-#[tactic(auto, using(crate::proofs::Behind::joins))]
-fn push_op(alloc: Global, op: &Op, out: &mut Vec<u8>) -> Result<(), AllocError>
-    ensures { OnOk result (out.new.items ≡ out.old.items ++ behind ((objects.op).spell op.now)) }
-{
-    match op {
-        Op::Full { payload } => {
-            push_word(b"full", out)?;
-            push_payload(alloc, payload, out)
-        }
-    }
-}
 
 #[tactic(auto, using(crate::proofs::Behind::joins))]
 fn push_damage(alloc: Global, damage: Damage, out: &mut Vec<u8>) -> Result<(), AllocError>
@@ -38,11 +29,12 @@ fn push_damage(alloc: Global, damage: Damage, out: &mut Vec<u8>) -> Result<(), A
     }
 }
 
-fn push_snap(snap: Snap, out: &mut Vec<u8>) -> Result<(), AllocError>
-    ensures { OnOk result (out.new.items ≡ out.old.items ++ behind (objects.snap_word snap ∷ [])) }
+fn push_snap(alloc: Global, snap: Snap, out: &mut Vec<u8>) -> Result<(), AllocError>
+    ensures { OnOk result (out.new.items ≡ out.old.items ++ behind ((objects.snap).spell snap ∷ [])) }
 {
     match snap {
         Snap::Head => push_word(b"head", out),
+        Snap::Clone { snap } => push_number(alloc, u64::from(snap), out),
     }
 }
 
@@ -53,16 +45,17 @@ pub fn push_write(
     client: u32,
     serial: u32,
     object: &Object,
+    context: &SnapContext,
     op: &Op,
     out: &mut Vec<u8>,
 ) -> Result<(), AllocError>
-    ensures { OnOk result (out.new.items ≡ out.old.items ++ begins (basics.basic_said (said.Write client serial (as_kept object.now) op.now)).words) }
+    ensures { OnOk result (out.new.items ≡ out.old.items ++ begins (basics.basic_said (said.Write client serial (as_kept object.now) (as_printed context.now) op.now)).words) }
 {
     out.extend_from_slice(b"write")?;
     push_number(alloc, u64::from(client), out)?;
     push_number(alloc, u64::from(serial), out)?;
     push_object(object, out)?;
-    push_word(b"-", out)?;
+    push_context(alloc, context, out)?;
     push_op(alloc, op, out)
 }
 
@@ -114,6 +107,6 @@ pub fn push_damage_step(
 {
     push_member(alloc, b"damage", group, osd, out)?;
     push_object(object, out)?;
-    push_snap(snap, out)?;
+    push_snap(alloc, snap, out)?;
     push_damage(alloc, damage, out)
 }

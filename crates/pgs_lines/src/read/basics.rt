@@ -3,10 +3,12 @@ ghost use Rattle.std.specs.Option.{option_copied};
 ghost use Rattle.pgs_words.specs.Forms.{Gives, left};
 ghost use Rattle.pgs_lines.specs.Basics as basics;
 
-use super::objects::{damage, op, snap};
+use super::contexts::context;
+use super::objects::{damage, snap};
+use super::ops::op;
 use crate::basic::Basic;
 use crate::object::Object;
-use pgs_words::{ReadError, dashed, ended, is_word, name, number, word};
+use pgs_words::{ReadError, dashed, ended, is_word, name, number};
 use std::alloc::Global;
 
 fn write(alloc: Global, words: Option<&[u8]>) -> Result<Basic, ReadError>
@@ -17,13 +19,14 @@ fn write(alloc: Global, words: Option<&[u8]>) -> Result<Basic, ReadError>
     let (space, words) = dashed(alloc, words, 64)?;
     let (key, words) = dashed(alloc, words, 255)?;
     let (name, words) = name(alloc, words, 255)?;
-    let words = word(words, b"-")?;
+    let (context, words) = context(alloc, words)?;
     let op = op(alloc, words)?;
     let object = Object { space, key, name };
     Ok(Basic::Write {
         client,
         serial,
         object,
+        context,
         op,
     })
 }

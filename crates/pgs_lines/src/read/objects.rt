@@ -3,26 +3,10 @@ ghost use Rattle.std.specs.Option.{option_copied};
 ghost use Rattle.pgs_words.specs.Forms.{Gives, left, taken};
 ghost use Rattle.pgs_lines.specs.Objects as objects;
 
-use super::payloads::last_payload;
 use crate::damage::Damage;
 use crate::kind::Kind;
 use crate::snap::Snap;
-use pgs_request::Op;
-use pgs_words::{ReadError, ended, is_word, next, number, positive_byte};
-use std::alloc::Global;
-
-/// OP: the last words of a write.
-#[tactic(auto, unfolding(crate::specs::Objects::op_rows, crate::specs::Objects::op_read))]
-pub fn op(alloc: Global, words: Option<&[u8]>) -> Result<Op, ReadError>
-    ensures { Gives (λ x. x) result ((objects.op).read (left 32 (option_copied words.entry))) }
-{
-    let (word, words) = next(words, b' ')?;
-    if is_word(word, b"full") {
-        let payload = last_payload(alloc, words)?;
-        return Ok(Op::Full { payload });
-    }
-    Err(ReadError::Outside)
-}
+use pgs_words::{ReadError, ended, is_word, next, number, number_in, positive_byte};
 
 fn flip(words: Option<&[u8]>) -> Result<Damage, ReadError>
     ensures { Gives (λ x. x) result (objects.flip_read (left 32 (option_copied words.entry))) }
@@ -52,6 +36,10 @@ pub fn snap(words: Option<&[u8]>) -> Result<(Snap, Option<&[u8]>), ReadError>
     let (word, words) = next(words, b' ')?;
     if is_word(word, b"head") {
         return Ok((Snap::Head, words));
+    }
+    let snap = number_in(word)?;
+    if 0 < snap {
+        return Ok((Snap::Clone { snap }, words));
     }
     Err(ReadError::Outside)
 }

@@ -1,5 +1,6 @@
 use pgs_codec::DecodeError;
-use pgs_snapset::{CloneFacts, Clones, SnapSet, Snaps};
+use pgs_request::Snaps;
+use pgs_snapset::{CloneFacts, Clones, SnapSet};
 use std::alloc::{AllocError, Global};
 use std::test::Fail;
 

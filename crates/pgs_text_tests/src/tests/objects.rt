@@ -1,58 +1,84 @@
 use super::printing::says;
-use pgs_lines::{Basic, Done, Line, Step, line_in};
-use pgs_request::{Version, WriteAnswer};
+use pgs_lines::{Basic, Context, Damage, Done, Line, Object, Snap, Step, line_in};
+use pgs_request::{Op, Version, WriteAnswer};
 use std::alloc::{AllocError, Global};
 use std::test::Fail;
 
-// What is done where a step that does one thing is done, for a write or damage alone.
-fn done(basic: Basic) -> Option<Done> {
+const FIRST: Version = Version {
+    epoch: 4,
+    number: 1,
+};
+
+// What is done where a client writes.
+fn written(alloc: Global, object: &Object, context: &Context, op: &Op) -> Result<Done, AllocError> {
+    let object = object.clone()?;
+    let context = context.meant(alloc)?;
+    let op = op.clone()?;
+    Ok(Done::Write {
+        client: 1,
+        serial: 2,
+        object,
+        context,
+        op,
+        answer: WriteAnswer::Accepted { version: FIRST },
+    })
+}
+
+// What is done where a copy on the OSD 5 changes.
+fn damaged(object: &Object, snap: Snap, damage: Damage) -> Result<Done, AllocError> {
+    let object = object.clone()?;
+    Ok(Done::Damage {
+        group: 0,
+        osd: 5,
+        object,
+        snap,
+        damage,
+    })
+}
+
+// Whether a step is printed so once it is done, for a write or damage alone.
+fn is_done(alloc: Global, basic: &Basic, wanted: &[u8]) -> Result<bool, AllocError> {
     match basic {
         Basic::Write {
-            client,
-            serial,
             object,
+            context,
             op,
-        } => Some(Done::Write {
-            client,
-            serial,
-            object,
-            op,
-            answer: WriteAnswer::Accepted {
-                version: Version {
-                    epoch: 4,
-                    number: 1,
-                },
-            },
-        }),
+            ..
+        } => {
+            let done = written(alloc, object, context, op)?;
+            says(alloc, done, wanted)
+        }
         Basic::Damage {
-            group,
-            osd,
             object,
             snap,
             damage,
-        } => Some(Done::Damage {
-            group,
-            osd,
-            object,
-            snap,
-            damage,
-        }),
-        _ => None,
+            ..
+        } => {
+            let done = damaged(object, *snap, *damage)?;
+            says(alloc, done, wanted)
+        }
+        _ => Ok(false),
     }
 }
 
-// Whether a line is read, and is printed so once it is done.
+fn is_said(alloc: Global, line: &Line, wanted: &[u8]) -> Result<bool, AllocError> {
+    match line {
+        Line::Step {
+            step: Step::Basic { basic },
+        } => is_done(alloc, basic, wanted),
+        _ => Ok(false),
+    }
+}
+
+// Whether a line is read, and is printed so once it is done: by the client 1 with the serial 2, or on the OSD 5.
 fn is_printed(alloc: Global, line: &[u8], wanted: &[u8]) -> Result<bool, AllocError> {
     match line_in(alloc, line) {
-        Ok(
-            Line::Step {
-                step: Step::Basic { basic },
-            },
-        ) => match done(basic) {
-            Some(done) => says(alloc, done, wanted),
-            None => Ok(false),
-        },
-        _ => Ok(false),
+        Ok(line) => {
+            let is = is_said(alloc, &line, wanted);
+            drop(line);
+            is
+        }
+        Err(_) => Ok(false),
     }
 }
 
@@ -93,5 +119,51 @@ fn key_that_is_name_is_printed_as_dash(rt: HostRuntime) -> Result<(), Fail> {
             b"damage 0 5 - - ab head flip 0 1 : damaged"
         )?
     );
+    Ok(())
+}
+
+#[test]
+fn operations_are_printed_as_read(rt: HostRuntime) -> Result<(), Fail> {
+    let rows = [
+        (
+            b"write 1 2 - - a - write 7 hex:00".as_slice(),
+            b"write 1 2 - - a - write 7 hex:00 : accepted 4'1".as_slice(),
+        ),
+        (
+            b"write 1 2 - - a 5 trunc 7".as_slice(),
+            b"write 1 2 - - a 5 trunc 7 : accepted 4'1".as_slice(),
+        ),
+        (
+            b"write 1 2 - - a 5:3 attr _b text:c".as_slice(),
+            b"write 1 2 - - a 5:3 attr _b text:c : accepted 4'1".as_slice(),
+        ),
+        (
+            b"write 1 2 - - a 5:4,3,0 rmattr _b".as_slice(),
+            b"write 1 2 - - a 5:4,3,0 rmattr _b : accepted 4'1".as_slice(),
+        ),
+        (
+            b"write 1 2 - - a 0 omap a fill:3:0a".as_slice(),
+            b"write 1 2 - - a - omap a fill:3:0a : accepted 4'1".as_slice(),
+        ),
+        (
+            b"write 1 2 - - a 0:0 rmomap a".as_slice(),
+            b"write 1 2 - - a 0:0 rmomap a : accepted 4'1".as_slice(),
+        ),
+        (
+            b"write 1 2 - - a - header text:".as_slice(),
+            b"write 1 2 - - a - header text: : accepted 4'1".as_slice(),
+        ),
+        (
+            b"write 1 2 - - a - remove".as_slice(),
+            b"write 1 2 - - a - remove : accepted 4'1".as_slice(),
+        ),
+        (
+            b"damage 0 5 - - a 12 flip 0 1".as_slice(),
+            b"damage 0 5 - - a 12 flip 0 1 : damaged".as_slice(),
+        ),
+    ];
+    for (line, wanted) in rows {
+        assert!(rt; is_printed(rt.alloc(), line, wanted)?);
+    }
     Ok(())
 }

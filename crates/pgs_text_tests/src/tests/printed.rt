@@ -1,7 +1,9 @@
 use super::printing::{object, says};
 use pgs_bytes::Bytes;
 use pgs_lines::{ApplyAnswer, Damage, Done, Snap};
-use pgs_request::{CollectAnswer, Declined, Op, Payload, Refusal, Version, WriteAnswer};
+use pgs_request::{
+    CollectAnswer, Declined, Op, Payload, Refusal, SnapContext, Snaps, Version, WriteAnswer,
+};
 use std::alloc::{AllocError, Global};
 use std::test::Fail;
 
@@ -15,6 +17,10 @@ fn write(alloc: Global, payload: Payload, answer: WriteAnswer) -> Result<Done, A
         client: 7,
         serial: 2,
         object: object(alloc, b"a")?,
+        context: SnapContext {
+            seq: 0,
+            snaps: Snaps::new(alloc),
+        },
         op: Op::Full { payload },
         answer,
     })
@@ -84,6 +90,29 @@ fn writes(rt: HostRuntime) -> Result<(), Fail> {
     );
     let done = write(alloc, text(alloc)?, refused(Refusal::LogFull { bytes: 9 }))?;
     assert!(rt; says(alloc, done, b"write 7 2 - - a - full text:x:y : log-full 9")?);
+    Ok(())
+}
+
+#[test]
+fn refused_writes(rt: HostRuntime) -> Result<(), Fail> {
+    let alloc = rt.alloc();
+    let done = write(alloc, text(alloc)?, refused(Refusal::NoSuchObject))?;
+    assert!(rt;
+        says(
+            alloc,
+            done,
+            b"write 7 2 - - a - full text:x:y : no-such-object"
+        )?
+    );
+    let declined = Declined::BadSnapContext { place: 63 };
+    let done = write(alloc, text(alloc)?, WriteAnswer::Declined { declined })?;
+    assert!(rt;
+        says(
+            alloc,
+            done,
+            b"write 7 2 - - a - full text:x:y : bad-snap-context 63"
+        )?
+    );
     Ok(())
 }
 

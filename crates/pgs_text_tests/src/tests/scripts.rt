@@ -136,3 +136,56 @@ fn limits(rt: HostRuntime) -> Result<(), Fail> {
     assert_eq!(rt; again.as_str(), "BadLine 18");
     Ok(())
 }
+
+// A script with one group, and a write with so many snaps 1 in its context.
+fn with_snaps(alloc: Global, count: u32) -> Result<String, AllocError> {
+    let mut text = Vec::new(alloc);
+    text.extend_from_slice(b"write 1 1 - - a 1:1")?;
+    for _ in 1..count {
+        text.extend_from_slice(b",1")?;
+    }
+    text.extend_from_slice(b" remove\nend\n")?;
+    followed(alloc, text.as_slice())
+}
+
+#[test]
+fn limits_of_writes(rt: HostRuntime) -> Result<(), Fail> {
+    let alloc = rt.alloc();
+    let most = with_snaps(alloc, 64)?;
+    assert_eq!(rt; most.as_str(), "Steps 1");
+    let more = with_snaps(alloc, 65)?;
+    assert_eq!(rt; more.as_str(), "Limit 6");
+    let rows = [
+        (
+            b"write 1 1 - - a - attr _a fill:65536:00\nend\n".as_slice(),
+            "Steps 1",
+        ),
+        (
+            b"write 1 1 - - a - attr _a fill:65537:00\n".as_slice(),
+            "Limit 6",
+        ),
+        (
+            b"write 1 1 - - a - omap a fill:65537:00\n".as_slice(),
+            "Limit 6",
+        ),
+        (
+            b"write 1 1 - - a - header fill:65537:00\n".as_slice(),
+            "Limit 6",
+        ),
+        (
+            b"write 1 1 - - a - write 1 fill:65537:00\nend\n".as_slice(),
+            "Steps 1",
+        ),
+        (
+            b"write 1 1 - - a - header fill:65537:00 x\n".as_slice(),
+            "BadLine 6",
+        ),
+        (b"damage 0 0 - - a 1 flip 0 1\nend\n".as_slice(), "Steps 1"),
+        (b"damage 0 0 - - a 0 flip 0 1\n".as_slice(), "BadLine 6"),
+    ];
+    for (rest, wanted) in rows {
+        let answer = followed(alloc, rest)?;
+        assert_eq!(rt; answer.as_str(), wanted);
+    }
+    Ok(())
+}

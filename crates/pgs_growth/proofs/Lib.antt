@@ -1,0 +1,6 @@
+-- Laws of edits of different parts of a copy.
+pub mod Entries
+pub mod Lengths
+pub mod PairSizes
+pub mod PartLaws
+pub mod GrowthLaws
