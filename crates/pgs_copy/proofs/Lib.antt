@@ -1,4 +1,5 @@
 -- Laws of effects and damage.
+pub mod Cutting
 pub mod Laws
 pub mod PairLaws
 pub mod Places

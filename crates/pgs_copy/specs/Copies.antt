@@ -1,5 +1,6 @@
 -- The copies of one family of an object are seen as a function from a snap to the copy there, if there is one.
-use Rattle.std.specs.Prelude.{ℕ, ◌==◌, ◌+◌, nat_lt, List, [], ◌∷◌, length, Option, Some, None, option_map, slice_index, slice_set, bit_xor, if◌then◌else◌}
+use Rattle.std.specs.Prelude.{ℕ, ◌==◌, ◌+◌, nat_lt, List, [], ◌∷◌, length, Option, Some, None, option_map, slice_index, slice_set, bit_xor, take, Bool, true, false, if◌then◌else◌}
+use Rattle.std.specs.Bool.{then_some}
 use Rattle.pgs_bytes.specs.Edits.{resized, written}
 use Rattle.pgs_name.specs.declared.object_id.TheConstants.{HEAD}
 use Rattle.pgs_copy.specs.Pairs.{with_pair, without, pairs_size}
@@ -7,7 +8,7 @@ use Rattle.pgs_copy.specs.declared.obj_copy.ObjCopy.{ObjCopy}
 use Rattle.pgs_copy.specs.declared.effect.Effect.{Effect}
 use Rattle.pgs_copy.specs.declared.effect.Effect.TheVariants.{Clear, SetData, Write, Truncate, SetAttr, RmAttr, SetOmap, RmOmap, SetHeader, Clone, Remove, Install}
 use Rattle.pgs_copy.specs.declared.damage.Damage.{Damage}
-use Rattle.pgs_copy.specs.declared.damage.Damage.TheVariants.{Flip}
+use Rattle.pgs_copy.specs.declared.damage.Damage.TheVariants as damages
 
 -- a family of which no copy is there
 abbrev pub no_copies : ℕ → Option ObjCopy
@@ -72,10 +73,31 @@ after_effects (e ∷ es) copies = after_effects es (after_effect e.0 e.1 copies)
 abbrev pub flipped : ℕ → ℕ → List ℕ → List ℕ
 flipped at xor bytes = if nat_lt at (length bytes) then slice_set bytes at (bit_xor (slice_index bytes at) xor) else bytes
 
--- what damage leaves of a copy: a flip changes a byte of its data, and a copy that isn't there stays missing
+-- what damage leaves of a copy that is there; the loss of it isn't meant
+abbrev pub hurt : Damage → ObjCopy → ObjCopy
+hurt (damages.Flip at xor) copy = record copy { bytes = flipped at xor copy.bytes }
+hurt (damages.Cut size) copy = record copy { bytes = take size copy.bytes }
+hurt (damages.SetData bytes) copy = record copy { bytes = bytes }
+hurt (damages.SetAttr name value) copy = record copy { attrs = with_pair name value copy.attrs }
+hurt (damages.RmAttr name) copy = record copy { attrs = without name copy.attrs }
+hurt (damages.SetOmap key value) copy = record copy { omap = with_pair key value copy.omap }
+hurt (damages.RmOmap key) copy = record copy { omap = without key copy.omap }
+hurt (damages.SetHeader bytes) copy = record copy { header = bytes }
+hurt damages.Lose copy = copy
+
+-- damage that gives a part another value makes an empty copy first where none is there
+abbrev pub makes_copy : Damage → Bool
+makes_copy (damages.SetData bytes) = true
+makes_copy (damages.SetAttr name value) = true
+makes_copy (damages.SetOmap key value) = true
+makes_copy (damages.SetHeader bytes) = true
+makes_copy _ = false
+
+-- what damage leaves of the copy at its snap, if one is there
 abbrev pub damaged : Damage → Option ObjCopy → Option ObjCopy
-damaged (Flip at xor) None = None
-damaged (Flip at xor) (Some copy) = Some (record copy { bytes = flipped at xor copy.bytes })
+damaged damages.Lose copy = None
+damaged damage (Some copy) = Some (hurt damage copy)
+damaged damage None = then_some (makes_copy damage) (hurt damage empty_copy)
 
 -- the copies after damage at a snap: the copy there is what the damage leaves of it, and all others stay
 abbrev pub after_damage : ℕ → Damage → (ℕ → Option ObjCopy) → ℕ → Option ObjCopy

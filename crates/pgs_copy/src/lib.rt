@@ -10,7 +10,7 @@ mod obj_copy;
 mod pairs;
 
 pub use damage::Damage;
-pub use damages::apply_damage;
+pub use damages::{apply_damage, damaged, makes_copy};
 pub use effect::Effect;
 pub use effects::apply_effects;
 pub use obj_copy::ObjCopy;

@@ -43,6 +43,14 @@ impl Pairs {
         self.map.get(name)
     }
 
+    /// All pairs, in the order of the names' bytes.
+    pub fn as_map(&self) -> &BTreeMap<Bytes, Bytes>
+        ensures entries { result.now.entries ≡ self.now }
+        ensures in_order { IsInOrder self.now }
+    {
+        &self.map
+    }
+
     /// Gives a name its value, in the place of the one that it has.
     pub fn set(&mut self, name: Bytes, value: Bytes) -> Result<(), AllocError>
         ensures ok { OnOk result (self.new ≡ with_pair name value self.old) }

@@ -2,6 +2,5 @@
 pub mod Accepted
 pub mod Finds
 pub mod Maps
-pub mod Counting
 pub mod Scrubs
 pub mod WhyLaws

@@ -1,19 +1,19 @@
 -- The maps that were taken, and their positions.
 use Rattle.std.proofs.Common.{ℕ, ◌≡◌, ◌+◌, ◌<◌, ◌≤◌, ◌==◌, ◌&&◌, ◌||◌, Bool, true, false, cond, List, [], ◌∷◌, ◌++◌, length, take, drop, get_or, reverse, Option, Some, None, refl, sym, ap, ◌∙◌, subst}
-use Rattle.std.specs.List.{list_any}
-use Rattle.std.proofs.lemmas.List.{take_more, drop_more, drop_all, reverse-append}
+use Rattle.std.proofs.lemmas.List.{append_assoc, append-nil, take_more, drop_more, drop_all, reverse-append}
 use Rattle.pgs_bytes.proofs.Facts.{none_some, some_same}
 use Rattle.pgs_name.specs.declared.object_id.ObjectId.{ObjectId}
+use Rattle.std.specs.Borrow.{Bor}
+use Rattle.pgs_compare.specs.Parts.{maps_seen}
+use Rattle.pgs_compare.specs.Report.{AreOrdered as AreMapsOrdered}
 use Rattle.pgs_map.specs.Entries.{AreAscending}
 use Rattle.pgs_map.specs.declared.scrub_map.ScrubMap.{ScrubMap}
 use Rattle.pgs_history.specs.Scrubs.{taken, taken_after}
 use Rattle.pgs_history.specs.Answers.{with_map, maps_of}
-use Rattle.pgs_history.specs.Findings.{with_maps}
 use Rattle.pgs_history.specs.Chunks.{AreOrdered}
 use Rattle.pgs_history.specs.declared.take_answer.TakeAnswer.TheVariants.{Stale, Taken}
 use Rattle.pgs_history.specs.declared.event.Event.{Event}
 use Rattle.pgs_history.specs.declared.event.Event.TheVariants.{Submit, Collect, Pull, Tell, Begin, Open, Take, Close}
-use Rattle.pgs_group.specs.Finding.{in_some, with_taken}
 
 -- ---- looked for from the newest event on
 
@@ -85,31 +85,43 @@ in_order (Close c answer ∷ past) chunk osd map h e = in_order past chunk osd m
 pub taken_ascends : (past : List Event) (chunk osd : ℕ) (map : ScrubMap) → AreOrdered past → Some map ≡ taken past chunk osd → AreAscending map.entries
 taken_ascends past chunk osd map h e = in_order past chunk osd map h (sym e)
 
--- ---- tests of the maps that some OSDs gave
+-- ---- maps are gathered one OSD after another
 
-with_any : (p : ScrubMap → Bool) (t : Option ScrubMap) (maps : List ScrubMap) → list_any p (with_map t maps) ≡ (in_some p t || list_any p maps)
-with_any p None maps = refl
-with_any p (Some map) maps = refl
+rest_of : (past : List Event) (chunk : ℕ) (osds : List ℕ) (at d : ℕ) → at < length osds
+    → with_map (taken past chunk (get_or osds at d)) (maps_of past chunk (drop (at + 1) osds)) ≡ maps_of past chunk (drop at osds)
+rest_of past chunk osds at d within = sym (ap (λ x. maps_of past chunk x) (drop_more osds at d within))
 
-pub any_taken : (p : ScrubMap → Bool) (past : List Event) (chunk : ℕ) (osds : List ℕ) → list_any (λ osd. in_some p (taken past chunk osd)) osds ≡ list_any p (maps_of past chunk osds)
-any_taken p past chunk [] = refl
-any_taken p past chunk (osd ∷ osds) =
-    ap (λ b. in_some p (taken past chunk osd) || b) (any_taken p past chunk osds) ∙ sym (with_any p (taken past chunk osd) (maps_of past chunk osds))
+seen_more : (maps : List (Bor ScrubMap)) (map : Bor ScrubMap) → maps_seen (maps ++ map ∷ []) ≡ maps_seen maps ++ map.now ∷ []
+seen_more [] map = refl
+seen_more (m ∷ maps) map = ap (λ l. m.now ∷ l) (seen_more maps map)
 
--- ---- positions are put one map after another
+-- an OSD's map is taken along
+pub one_gathered : (past : List Event) (chunk : ℕ) (osds : List ℕ) (at d : ℕ) (maps new : List (Bor ScrubMap)) (map : Bor ScrubMap) (all : List ScrubMap) → at < length osds
+    → Some map.now ≡ taken past chunk (get_or osds at d) → new ≡ maps ++ map ∷ [] → maps_seen maps ++ maps_of past chunk (drop at osds) ≡ all
+    → maps_seen new ++ maps_of past chunk (drop (at + 1) osds) ≡ all
+one_gathered past chunk osds at d maps new map all within is more so_far =
+    let rest : List ScrubMap = maps_of past chunk (drop (at + 1) osds) in
+    ap (λ l. maps_seen l ++ rest) more ∙ ap (λ l. l ++ rest) (seen_more maps map) ∙ append_assoc (maps_seen maps) (map.now ∷ []) rest
+    ∙ ap (λ o. maps_seen maps ++ with_map o rest) is ∙ ap (λ l. maps_seen maps ++ l) (rest_of past chunk osds at d within) ∙ so_far
 
-with_step : (ids : List ObjectId) (t : Option ScrubMap) (maps : List ScrubMap) → with_maps ids (with_map t maps) ≡ with_maps (with_taken ids t) maps
-with_step ids None maps = refl
-with_step ids (Some map) maps = refl
+-- an OSD gave none
+pub none_gathered : (past : List Event) (chunk : ℕ) (osds : List ℕ) (at d : ℕ) (maps : List (Bor ScrubMap)) (all : List ScrubMap) → at < length osds
+    → None ≡ taken past chunk (get_or osds at d) → maps_seen maps ++ maps_of past chunk (drop at osds) ≡ all → maps_seen maps ++ maps_of past chunk (drop (at + 1) osds) ≡ all
+none_gathered past chunk osds at d maps all within is so_far =
+    ap (λ o. maps_seen maps ++ with_map o (maps_of past chunk (drop (at + 1) osds))) is ∙ ap (λ l. maps_seen maps ++ l) (rest_of past chunk osds at d within) ∙ so_far
 
-pub put_next : (past : List Event) (chunk : ℕ) (osds : List ℕ) (at d : ℕ) (ids new all : List ObjectId) → at < length osds
-    → new ≡ with_taken ids (taken past chunk (get_or osds at d)) → with_maps ids (maps_of past chunk (drop at osds)) ≡ all
-    → with_maps new (maps_of past chunk (drop (at + 1) osds)) ≡ all
-put_next past chunk osds at d ids new all within e rest =
-    ap (λ x. with_maps x (maps_of past chunk (drop (at + 1) osds))) e
-    ∙ sym (with_step ids (taken past chunk (get_or osds at d)) (maps_of past chunk (drop (at + 1) osds)))
-    ∙ sym (ap (λ x. with_maps ids (maps_of past chunk x)) (drop_more osds at d within)) ∙ rest
+pub all_gathered : (past : List Event) (chunk : ℕ) (osds : List ℕ) (at : ℕ) (maps : List (Bor ScrubMap)) (all : List ScrubMap) → length osds ≤ at
+    → maps_seen maps ++ maps_of past chunk (drop at osds) ≡ all → maps_seen maps ≡ all
+all_gathered past chunk osds at maps all done so_far =
+    sym (append-nil (maps_seen maps)) ∙ sym (ap (λ x. maps_seen maps ++ maps_of past chunk x) (drop_all at osds done)) ∙ so_far
 
-pub put_end : (past : List Event) (chunk : ℕ) (osds : List ℕ) (at : ℕ) (ids all : List ObjectId) → length osds ≤ at
-    → with_maps ids (maps_of past chunk (drop at osds)) ≡ all → ids ≡ all
-put_end past chunk osds at ids all done rest = sym (ap (λ x. with_maps ids (maps_of past chunk x)) (drop_all at osds done)) ∙ rest
+-- one map more, whose entries are in order
+pub ordered_more : (maps new : List (Bor ScrubMap)) (map : Bor ScrubMap) → new ≡ maps ++ map ∷ [] → AreMapsOrdered (maps_seen maps) → AreAscending map.now.entries
+    → AreMapsOrdered (maps_seen new)
+ordered_more maps new map more so_far ascends = subst (λ l. AreMapsOrdered (maps_seen l)) (sym more) (go maps so_far)
+  where
+    go : (maps : List (Bor ScrubMap)) → AreMapsOrdered (maps_seen maps) → AreMapsOrdered (maps_seen (maps ++ map ∷ []))
+    go [] h = (ascends, tt)
+    go (m ∷ maps) h = (h.0, go maps h.1)
+
+pub ruleset gathering = (one_gathered, none_gathered, all_gathered, ordered_more)

@@ -8,9 +8,11 @@ use Rattle.pgs_store.specs.Stores.{AreSame}
 use Rattle.pgs_op.specs.Clean.{clean as clean_of, held_by}
 use Rattle.pgs_op.specs.Refusals.{first}
 use Rattle.pgs_op_log.specs.Logs.{same_id}
+use Rattle.pgs_compare.specs.Report.{report as report_of}
+use Rattle.pgs_compare.specs.declared.report.Report.{Report}
 use Rattle.pgs_history.specs.Log.{clean, log}
-use Rattle.pgs_history.specs.Scrubs.{begun, opened, is_open}
-use Rattle.pgs_history.specs.Answers.{unclosed, missing}
+use Rattle.pgs_history.specs.Scrubs.{begun, opened, is_open, open_chunk}
+use Rattle.pgs_history.specs.Answers.{unclosed, missing, found, maps_of, version_of}
 use Rattle.pgs_history.specs.declared.made.Made.{Made}
 use Rattle.pgs_history.specs.declared.close_answer.CloseAnswer.{CloseAnswer}
 use Rattle.pgs_history.specs.declared.close_answer.CloseAnswer.TheVariants as closes
@@ -78,12 +80,12 @@ still g past chunk answer e t = record {
 }
 
 -- why a chunk wasn't closed isn't that it was
-not_closed : (a b : Bool) (m : Option ℕ) (findings : ℕ) (completes : Bool)
-    → first (then_some a closes.NoChunk ∷ then_some b closes.ClosedBefore ∷ option_map (λ osd. closes.NotYet osd) m ∷ []) ≡ Some (closes.Closed findings completes) → ⊥
-not_closed true b m findings completes e = absurd cc
-not_closed false true m findings completes e = absurd cc
-not_closed false false (Some osd) findings completes e = absurd cc
-not_closed false false None findings completes e = absurd cc
+not_closed : (a b : Bool) (m : Option ℕ) (report : Report) (completes : Bool)
+    → first (then_some a closes.NoChunk ∷ then_some b closes.ClosedBefore ∷ option_map (λ osd. closes.NotYet osd) m ∷ []) ≡ Some (closes.Closed report completes) → ⊥
+not_closed true b m report completes e = absurd cc
+not_closed false true m report completes e = absurd cc
+not_closed false false (Some osd) report completes e = absurd cc
+not_closed false false None report completes e = absurd cc
 
 -- a chunk that isn't closed leaves the scrubs as they are
 pub tied_unclosed : (g : Inside) (made : Made) (past : List Event) (chunk : ℕ) (answer : CloseAnswer) → unclosed made past chunk ≡ Some answer → AreTied g past
@@ -92,8 +94,8 @@ unfolding unclosed
 tied_unclosed g made past chunk closes.NoChunk e t = still g past chunk closes.NoChunk refl t
 tied_unclosed g made past chunk closes.ClosedBefore e t = still g past chunk closes.ClosedBefore refl t
 tied_unclosed g made past chunk (closes.NotYet osd) e t = still g past chunk (closes.NotYet osd) refl t
-tied_unclosed g made past chunk (closes.Closed findings completes) e t =
-    absurd (not_closed ((chunk == 0) || nat_lt (opened past) chunk) (not (is_open past chunk)) (missing made past chunk) findings completes e)
+tied_unclosed g made past chunk (closes.Closed report completes) e t =
+    absurd (not_closed ((chunk == 0) || nat_lt (opened past) chunk) (not (is_open past chunk)) (missing made past chunk) report completes e)
 
 -- the same fields are tied to the same events
 pub tied_same : (g new : Inside) (past : List Event) → new.log ≡ g.log → new.clean ≡ g.clean → new.pulled ≡ g.pulled → new.told ≡ g.told → new.collected ≡ g.collected
@@ -110,3 +112,9 @@ tied_same g new past l c p d o s t = record {
   ordered = t.ordered;
   collects = λ id. ap (λ x. contains same_id x id) o ∙ t.collects id;
 }
+
+-- what was compared is what the history says
+pub compared_so : (made : Made) (past : List Event) (version chunk : ℕ) (members : List ℕ) (compared : Report) → version ≡ version_of (open_chunk past) → members ≡ made.members
+    → compared ≡ report_of members version (maps_of past chunk members) → compared ≡ found made past chunk
+compared_so made past version chunk members compared v m e =
+    e ∙ ap (λ n. report_of members n (maps_of past chunk members)) v ∙ ap (λ o. report_of o (version_of (open_chunk past)) (maps_of past chunk o)) m

@@ -1,7 +1,6 @@
 -- How a group is seen.
 pub mod Counts
 pub mod Scrubbing
-pub mod Finding
 pub mod Tied
 pub mod Steps
 pub mod Weighed

@@ -1,5 +1,5 @@
 -- Steps of every kind: the answer due, and the events after it.
-use Rattle.std.specs.Prelude.{ℕ, ◌≡◌, List, reverse, Some, None, option_map}
+use Rattle.std.specs.Prelude.{ℕ, ◌≡◌, List, length, reverse, Some, None, option_map}
 use Rattle.pgs_op_log.specs.Logs.{newer}
 use Rattle.pgs_history.specs.Log.{log}
 use Rattle.pgs_history.specs.Members.{pulled}
@@ -12,6 +12,10 @@ use Rattle.pgs_history.specs.History.{History}
 use Rattle.pgs_history.specs.declared.event.Event.{Event}
 use Rattle.pgs_history.specs.declared.made.Made.{Made}
 use Rattle.pgs_group.specs.declared.pulled.Pulled.{Pulled}
+use Rattle.pgs_history.specs.declared.close_answer.CloseAnswer.{CloseAnswer}
+use Rattle.pgs_history.specs.declared.close_answer.CloseAnswer.TheVariants as closes
+use Rattle.pgs_group.specs.declared.close_told.CloseTold.{CloseTold}
+use Rattle.pgs_group.specs.declared.close_told.CloseTold.TheVariants as told
 use Rattle.pgs_group.specs.declared.next_chunk.NextChunk.{NextChunk}
 use Rattle.pgs_group.specs.declared.next_chunk.NextChunk.TheVariants as nexts
 use Rattle.pgs_group.specs.declared.step.Step.{Step}
@@ -23,6 +27,13 @@ use Rattle.pgs_group.specs.declared.step.Answer.TheVariants as answers
 abbrev pub pull_answer : List Event → ℕ → Pulled
 pull_answer past osd = record { from = pulled past osd; to = last_number past; items = reverse (newer (pulled past osd) (log past)) }
 
+-- what a caller is told of an answer: how much was found, and not what
+abbrev pub close_told : CloseAnswer → CloseTold
+close_told closes.NoChunk = told.NoChunk
+close_told closes.ClosedBefore = told.ClosedBefore
+close_told (closes.NotYet osd) = told.NotYet osd
+close_told (closes.Closed report completes) = told.Closed (length report.found) (length report.snaps) completes
+
 abbrev pub answer_of : History → Step → Answer
 answer_of h (steps.Submit write) = answers.Submit (submit_answer h.made h.past write)
 answer_of h (steps.Collect id) = answers.Collect (collect_answer h.made h.past id)
@@ -31,7 +42,7 @@ answer_of h (steps.Tell osd applied) = answers.Tell (tell_answer h.past osd appl
 answer_of h (steps.Begin kind) = answers.Begin (begin_answer h.past)
 answer_of h (steps.Open serial listed) = answers.Open (open_answer h.made h.past serial listed)
 answer_of h (steps.Take place map) = answers.Take (take_answer h.past map)
-answer_of h (steps.Close chunk) = answers.Close (close_answer h.made h.past chunk)
+answer_of h (steps.Close chunk) = answers.Close (close_told (close_answer h.made h.past chunk))
 
 abbrev pub after : History → Step → History
 after h (steps.Submit write) = record h { past = after_submit h.made h.past write }

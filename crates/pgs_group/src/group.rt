@@ -74,6 +74,7 @@ impl Group {
                 running: None,
                 open_chunk: None,
                 start: Bound::Min,
+                kind: None,
             },
         }
     }

@@ -3,8 +3,9 @@
 
 mod accepting;
 mod behind;
+mod close_told;
+mod comparing;
 mod counts;
-mod finding;
 mod group;
 mod next_chunk;
 mod pulled;
@@ -14,6 +15,7 @@ mod taken;
 mod weighed;
 mod weighing;
 
+pub use close_told::CloseTold;
 pub use counts::Counts;
 pub use group::Group;
 pub use next_chunk::NextChunk;

@@ -1,9 +1,10 @@
 ghost use Rattle.std.specs.Prelude.{◌≡◌, ◌+◌, ◌<◌, ◌^◌, Some};
-ghost use Rattle.pgs_history.specs.Scrubs.{has_number};
-ghost use Rattle.pgs_history.specs.Answers.{is_greatest, is_last, taken_by};
+ghost use Rattle.pgs_history.specs.Scrubs.{has_number, is_deep};
+ghost use Rattle.pgs_history.specs.Answers.{is_greatest, is_last, taken_by, version_of};
 ghost use Rattle.pgs_range.specs.declared.bound.Bound.TheVariants.{Min};
 ghost use Rattle.pgs_group.specs.Scrubbing.{closed};
 
+use pgs_chunk::Kind;
 use pgs_history::{Chunk, TakeAnswer};
 use pgs_range::{Bound, FamilyRange};
 
@@ -20,19 +21,22 @@ pub struct Scrubbing {
     pub open_chunk: Option<Chunk>,
     /// Where the next chunk begins.
     pub start: Bound,
+    /// The kind of the scrub that began last.
+    pub kind: Option<Kind>,
 }
 
 impl Scrubbing {
     /// A scrub more begins, and runs.
-    pub fn begin(&mut self) -> u64
+    pub fn begin(&mut self, kind: Kind) -> u64
         requires { self.old.begun + 1 < 2 ^ 64 }
         ensures number { result ≡ self.old.begun + 1 }
-        ensures kept { self.new ≡ record self.old { begun = self.old.begun + 1; running = Some (self.old.begun + 1); start = Min } }
+        ensures kept { self.new ≡ record self.old { begun = self.old.begun + 1; running = Some (self.old.begun + 1); start = Min; kind = Some kind } }
     {
         let serial = self.begun + 1;
         self.begun = serial;
         self.running = Some(serial);
         self.start = Bound::Min;
+        self.kind = Some(kind);
         serial
     }
 
@@ -51,6 +55,26 @@ impl Scrubbing {
         match &self.open_chunk {
             Some(open) => open.number == chunk,
             None => false,
+        }
+    }
+
+    /// Whether the scrub that began last reads the data and the omaps of copies.
+    pub fn is_deep(&self) -> bool
+        ensures { result ≡ is_deep self.now.kind }
+    {
+        match self.kind {
+            Some(Kind::Deep | Kind::Repair) => true,
+            Some(Kind::Shallow) | None => false,
+        }
+    }
+
+    /// The version of the chunk that is open: 0 where none is.
+    pub fn version(&self) -> u64
+        ensures { result ≡ version_of self.now.open_chunk }
+    {
+        match &self.open_chunk {
+            Some(open) => open.version,
+            None => 0,
         }
     }
 

@@ -1,6 +1,7 @@
+use crate::close_told::CloseTold;
 use crate::pulled::Pulled;
 use pgs_chunk::Kind;
-use pgs_history::{BeginAnswer, CloseAnswer, OpenAnswer, TakeAnswer};
+use pgs_history::{BeginAnswer, OpenAnswer, TakeAnswer};
 use pgs_map::ScrubMap;
 use pgs_name::ObjectId;
 use pgs_op::Write;
@@ -57,5 +58,5 @@ pub enum Answer {
     Begin { answer: BeginAnswer },
     Open { answer: OpenAnswer },
     Take { answer: TakeAnswer },
-    Close { answer: CloseAnswer },
+    Close { answer: CloseTold },
 }

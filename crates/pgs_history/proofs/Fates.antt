@@ -86,6 +86,6 @@ fated made (Open serial listed (Opened chunk) ∷ past) legal =
 fated made (Close number ends.NoChunk ∷ past) legal = stays past (Close number ends.NoChunk ∷ past) refl refl (λ c. refl) (fated made past legal.1)
 fated made (Close number ends.ClosedBefore ∷ past) legal = stays past (Close number ends.ClosedBefore ∷ past) refl refl (λ c. refl) (fated made past legal.1)
 fated made (Close number (ends.NotYet osd) ∷ past) legal = absurd legal.0.1
-fated made (Close number (ends.Closed findings completes) ∷ past) legal =
-    one_closed past (Close number (ends.Closed findings completes) ∷ past) number completes (closed_is made past number findings completes legal.0.0) refl refl (λ c. refl)
+fated made (Close number (ends.Closed report completes) ∷ past) legal =
+    one_closed past (Close number (ends.Closed report completes) ∷ past) number completes (closed_is made past number report completes legal.0.0) refl refl (λ c. refl)
     (fated made past legal.1)

@@ -54,7 +54,7 @@ closed_legal : (made : Made) (past : List Event) (chunk : ℕ) (answer : CloseAn
 closed_legal made past chunk closes.NoChunk e legal = ((e, tt), legal)
 closed_legal made past chunk closes.ClosedBefore e legal = ((e, tt), legal)
 closed_legal made past chunk (closes.NotYet osd) e legal = legal
-closed_legal made past chunk (closes.Closed findings completes) e legal = ((e, tt), legal)
+closed_legal made past chunk (closes.Closed report completes) e legal = ((e, tt), legal)
 
 pub legal_close : (made : Made) (past : List Event) (chunk : ℕ) → IsLegal made past → IsLegal made (after_close made past chunk)
 legal_close made past chunk legal = closed_legal made past chunk (close_answer made past chunk) refl legal

@@ -14,6 +14,7 @@ use Rattle.pgs_range.proofs.Ends.{bound_total}
 use Rattle.pgs_range.proofs.Rows.{held_once}
 use Rattle.pgs_chunk.specs.Positions.{Ascends}
 use Rattle.pgs_chunk.proofs.Chunks.{chunk_rises}
+use Rattle.pgs_compare.specs.declared.report.Report.{Report}
 use Rattle.pgs_history.specs.Scrubs.{begun, running, open_chunk, has_number, end_of, start, limit_now, closed_ranges, with_range, completed, is_of}
 use Rattle.pgs_history.specs.Answers.{is_last, is_greatest, next_chunk}
 use Rattle.pgs_history.specs.Legal.{IsLegal}
@@ -139,9 +140,9 @@ or_false : (a b : Bool) → a ≡ false → (a || b) ≡ b
 or_false true b e = absurd (true_false e)
 or_false false b e = refl
 
-module _ (past : List Event) (number findings : ℕ) (completes : Bool) (h : IsWalk past) where
+module _ (past : List Event) (number : ℕ) (report : Report) (completes : Bool) (h : IsWalk past) where
   abbrev new : List Event
-  new = Close number (ends.Closed findings completes) ∷ past
+  new = Close number (ends.Closed report completes) ∷ past
 
   module _ (chunk : Chunk) (is : open_chunk past ≡ Some chunk) (last : completes ≡ is_greatest chunk.range.to) where
     now_is : IsNow past chunk
@@ -235,9 +236,9 @@ walked made (Open serial listed (Opened chunk) ∷ past) legal =
 walked made (Close number ends.NoChunk ∷ past) legal = alike past (Close number ends.NoChunk) refl refl refl refl (λ s. refl) (λ s. refl) (walked made past legal.1)
 walked made (Close number ends.ClosedBefore ∷ past) legal = alike past (Close number ends.ClosedBefore) refl refl refl refl (λ s. refl) (λ s. refl) (walked made past legal.1)
 walked made (Close number (ends.NotYet osd) ∷ past) legal = absurd legal.0.1
-walked made (Close number (ends.Closed findings completes) ∷ past) legal =
-    let closed = closed_is made past number findings completes legal.0.0 in
-    closed_some past number findings completes (walked made past legal.1) (open_chunk past) refl closed.was_open closed.last
+walked made (Close number (ends.Closed report completes) ∷ past) legal =
+    let closed = closed_is made past number report completes legal.0.0 in
+    closed_some past number report completes (walked made past legal.1) (open_chunk past) refl closed.was_open closed.last
 
 pub tiled : (made : Made) (past : List Event) → IsLegal made past → AreTiled past
 tiled made past legal serial =

@@ -6,6 +6,7 @@ use Rattle.std.proofs.lemmas.Bool.Decides.{nat_tests}
 use Rattle.pgs_bytes.proofs.Facts.{true_false}
 use Rattle.pgs_name.specs.declared.object_id.ObjectId.{ObjectId}
 use Rattle.pgs_op.specs.Refusals.{first}
+use Rattle.pgs_compare.specs.declared.report.Report.{Report}
 use Rattle.pgs_history.specs.Scrubs.{running, begun, opened, open_chunk, is_open}
 use Rattle.pgs_history.specs.Answers.{unclosed, or_closed, found, is_last, missing, begin_answered, begin_answer, open_answer, open_answered, next_chunk, close_answer}
 use Rattle.pgs_history.specs.declared.made.Made.{Made}
@@ -50,18 +51,18 @@ not_false : (a : Bool) → not a ≡ false → a ≡ true
 not_false true e = refl
 not_false false e = absurd (true_false e)
 
-closed_from : (a b : Bool) (m : Option ℕ) (n findings : ℕ) (last completes : Bool)
-    → ends.Closed findings completes ≡ or_closed (first (then_some a ends.NoChunk ∷ then_some b ends.ClosedBefore ∷ option_map (λ osd. ends.NotYet osd) m ∷ [])) n last
+closed_from : (a b : Bool) (m : Option ℕ) (n report : Report) (last completes : Bool)
+    → ends.Closed report completes ≡ or_closed (first (then_some a ends.NoChunk ∷ then_some b ends.ClosedBefore ∷ option_map (λ osd. ends.NotYet osd) m ∷ [])) n last
     → (a ≡ false) × (b ≡ false) × (completes ≡ last)
-closed_from true b m n findings last completes e = absurd cc
-closed_from false true m n findings last completes e = absurd cc
-closed_from false false (Some osd) n findings last completes e = absurd cc
-closed_from false false None n findings last completes e = (refl, refl, cc)
+closed_from true b m n report last completes e = absurd cc
+closed_from false true m n report last completes e = absurd cc
+closed_from false false (Some osd) n report last completes e = absurd cc
+closed_from false false None n report last completes e = (refl, refl, cc)
 
-pub closed_is : (made : Made) (past : List Event) (number findings : ℕ) (completes : Bool) → ends.Closed findings completes ≡ close_answer made past number → IsClosed past number completes
+pub closed_is : (made : Made) (past : List Event) (number : ℕ) (report : Report) (completes : Bool) → ends.Closed report completes ≡ close_answer made past number → IsClosed past number completes
 unfolding unclosed
-closed_is made past number findings completes e =
-    let h = closed_from ((number == 0) || nat_lt (opened past) number) (not (is_open past number)) (missing made past number) (found made past number) findings
+closed_is made past number report completes e =
+    let h = closed_from ((number == 0) || nat_lt (opened past) number) (not (is_open past number)) (missing made past number) (found made past number) report
     (is_last (open_chunk past)) completes e in
     let within = either (number == 0) (nat_lt (opened past) number) h.0 in
     record {

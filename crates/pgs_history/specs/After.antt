@@ -53,7 +53,7 @@ abbrev pub after_closed : List Event → ℕ → CloseAnswer → List Event
 after_closed past chunk (closes.NotYet osd) = past
 after_closed past chunk closes.NoChunk = Close chunk closes.NoChunk ∷ past
 after_closed past chunk closes.ClosedBefore = Close chunk closes.ClosedBefore ∷ past
-after_closed past chunk (closes.Closed findings completes) = Close chunk (closes.Closed findings completes) ∷ past
+after_closed past chunk (closes.Closed report completes) = Close chunk (closes.Closed report completes) ∷ past
 
 abbrev pub after_close : Made → List Event → ℕ → List Event
 after_close made past chunk = after_closed past chunk (close_answer made past chunk)

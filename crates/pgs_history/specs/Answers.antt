@@ -21,8 +21,9 @@ use Rattle.pgs_range.specs.declared.bound.Bound.{Bound}
 use Rattle.pgs_range.specs.declared.bound.Bound.TheVariants.{Min, At, Max}
 use Rattle.pgs_chunk.specs.Chunk.{chunk_of}
 use Rattle.pgs_map.specs.declared.scrub_map.ScrubMap.{ScrubMap}
+use Rattle.pgs_compare.specs.Report.{report}
+use Rattle.pgs_compare.specs.declared.report.Report.{Report}
 use Rattle.pgs_history.specs.Scrubs.{begun, running, opened, open_chunk, has_number, is_open, start, limit_now, is_firm, taken}
-use Rattle.pgs_history.specs.Findings.{findings_of}
 use Rattle.pgs_history.specs.declared.begin_answer.BeginAnswer.{BeginAnswer}
 use Rattle.pgs_history.specs.declared.begin_answer.BeginAnswer.TheVariants.{Busy, Began}
 use Rattle.pgs_history.specs.declared.chunk.Chunk.{Chunk}
@@ -151,9 +152,14 @@ abbrev pub maps_of : List Event → ℕ → List ℕ → List ScrubMap
 maps_of past chunk [] = []
 maps_of past chunk (osd ∷ osds) = with_map (taken past chunk osd) (maps_of past chunk osds)
 
--- how many positions have a finding, by the maps of the acting OSDs
-abbrev pub found : Made → List Event → ℕ → ℕ
-found made past chunk = findings_of (clean (log past)) (maps_of past chunk made.members)
+-- the version of a chunk, if there is one
+abbrev pub version_of : Option Chunk → ℕ
+version_of None = 0
+version_of (Some chunk) = chunk.version
+
+-- what comparing the maps of the acting OSDs finds, with the version of the chunk that is open
+abbrev pub found : Made → List Event → ℕ → Report
+found made past chunk = report made.members (version_of (open_chunk past)) (maps_of past chunk made.members)
 
 abbrev pub is_greatest : Bound → Bool
 is_greatest Min = false
@@ -173,9 +179,9 @@ unclosed made past chunk = first (
     ∷ option_map (λ osd. closes.NotYet osd) (missing made past chunk)
     ∷ [])
 
-abbrev pub or_closed : Option CloseAnswer → ℕ → Bool → CloseAnswer
-or_closed (Some why) findings completes = why
-or_closed None findings completes = closes.Closed findings completes
+abbrev pub or_closed : Option CloseAnswer → Report → Bool → CloseAnswer
+or_closed (Some why) report completes = why
+or_closed None report completes = closes.Closed report completes
 
 -- a closed chunk completes its scrub where it ends above all families
 abbrev pub close_answer : Made → List Event → ℕ → CloseAnswer

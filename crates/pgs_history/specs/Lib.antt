@@ -2,7 +2,6 @@
 pub mod Log
 pub mod Members
 pub mod Scrubs
-pub mod Findings
 pub mod Answers
 pub mod Chunks
 pub mod After

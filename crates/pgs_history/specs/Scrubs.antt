@@ -1,9 +1,11 @@
 -- The scrubs of a group and their chunks, by its events, the newest first.
-use Rattle.std.specs.Prelude.{ℕ, ◌+◌, ◌==◌, ◌&&◌, ◌||◌, Bool, false, List, [], ◌∷◌, Option, Some, None, if◌then◌else◌}
+use Rattle.std.specs.Prelude.{ℕ, ◌+◌, ◌==◌, ◌&&◌, ◌||◌, Bool, false, true, List, [], ◌∷◌, Option, Some, None, if◌then◌else◌}
 use Rattle.pgs_range.specs.declared.bound.Bound.{Bound}
 use Rattle.pgs_range.specs.declared.bound.Bound.TheVariants.{Min}
 use Rattle.pgs_range.specs.declared.family_range.FamilyRange.{FamilyRange}
 use Rattle.pgs_chunk.specs.Limits.{limit_after}
+use Rattle.pgs_chunk.specs.declared.kind.Kind.{Kind}
+use Rattle.pgs_chunk.specs.declared.kind.Kind.TheVariants.{Shallow}
 use Rattle.pgs_map.specs.declared.scrub_map.ScrubMap.{ScrubMap}
 use Rattle.pgs_history.specs.declared.begin_answer.BeginAnswer.TheVariants.{Began}
 use Rattle.pgs_history.specs.declared.chunk.Chunk.{Chunk}
@@ -27,13 +29,28 @@ begun (event ∷ past) = begun_after event (begun past)
 
 abbrev pub running_after : Event → Option ℕ → Option ℕ
 running_after (Begin kind (Began serial)) before = Some serial
-running_after (Close chunk (Closed findings completes)) before = if completes then None else before
+running_after (Close chunk (Closed report completes)) before = if completes then None else before
 running_after event before = before
 
 -- the scrub that runs: from when it began until a chunk's close completes it
 abbrev pub running : List Event → Option ℕ
 running [] = None
 running (event ∷ past) = running_after event (running past)
+
+abbrev pub kind_after : Event → Option Kind → Option Kind
+kind_after (Begin kind (Began serial)) before = Some kind
+kind_after event before = before
+
+-- the kind of the scrub that began last
+abbrev pub last_kind : List Event → Option Kind
+last_kind [] = None
+last_kind (event ∷ past) = kind_after event (last_kind past)
+
+-- a scrub of this kind reads the data and the omaps of copies
+abbrev pub is_deep : Option Kind → Bool
+is_deep None = false
+is_deep (Some Shallow) = false
+is_deep (Some kind) = true
 
 -- ---- chunks
 
@@ -48,7 +65,7 @@ opened (event ∷ past) = opened_after event (opened past)
 
 abbrev pub open_after : Event → Option Chunk → Option Chunk
 open_after (Open serial listed (Opened chunk)) before = Some chunk
-open_after (Close number (Closed findings completes)) before = None
+open_after (Close number (Closed report completes)) before = None
 open_after event before = before
 
 -- the chunk that is open: from when it was opened until it is closed
@@ -74,7 +91,7 @@ end_of (Some chunk) before = chunk.range.to
 
 abbrev pub start_after : Event → Option Chunk → Bound → Bound
 start_after (Begin kind (Began serial)) chunk before = Min
-start_after (Close number (Closed findings completes)) chunk before = end_of chunk before
+start_after (Close number (Closed report completes)) chunk before = end_of chunk before
 start_after event chunk before = before
 
 -- the end of the scrub's last closed chunk, or the least bound before the first
@@ -111,7 +128,7 @@ with_range None serial ranges = ranges
 with_range (Some chunk) serial ranges = if chunk.serial == serial then chunk.range ∷ ranges else ranges
 
 abbrev pub closed_after : Event → Option Chunk → ℕ → List FamilyRange → List FamilyRange
-closed_after (Close number (Closed findings completes)) chunk serial ranges = with_range chunk serial ranges
+closed_after (Close number (Closed report completes)) chunk serial ranges = with_range chunk serial ranges
 closed_after event chunk serial ranges = ranges
 
 -- the ranges of the closed chunks of a scrub, the last first
@@ -120,7 +137,7 @@ closed_ranges [] serial = []
 closed_ranges (event ∷ past) serial = closed_after event (open_chunk past) serial (closed_ranges past serial)
 
 abbrev pub closes_after : Event → ℕ → ℕ → ℕ
-closes_after (Close number (Closed findings completes)) chunk count = if number == chunk then count + 1 else count
+closes_after (Close number (Closed report completes)) chunk count = if number == chunk then count + 1 else count
 closes_after event chunk count = count
 
 -- how often a chunk was closed
@@ -134,7 +151,7 @@ is_of None serial = false
 is_of (Some chunk) serial = chunk.serial == serial
 
 abbrev pub completed_after : Event → Option Chunk → ℕ → Bool → Bool
-completed_after (Close number (Closed findings completes)) chunk serial before = before || (completes && is_of chunk serial)
+completed_after (Close number (Closed report completes)) chunk serial before = before || (completes && is_of chunk serial)
 completed_after event chunk serial before = before
 
 -- whether a scrub is complete

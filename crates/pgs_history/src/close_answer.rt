@@ -1,5 +1,7 @@
+use pgs_compare::Report;
+
 /// What a chunk is answered that is to be closed.
-#[derive(Clone, Copy, Debug, PartialEq, Drop)]
+#[derive(Drop)]
 pub enum CloseAnswer {
     /// No chunk of this number was opened.
     NoChunk,
@@ -12,8 +14,8 @@ pub enum CloseAnswer {
     },
     /// It is closed.
     Closed {
-        /// How many positions of its range have a finding.
-        findings: u64,
+        /// What comparing the maps of the acting OSDs found.
+        report: Report,
         /// Whether its scrub is complete with it.
         completes: bool,
     },

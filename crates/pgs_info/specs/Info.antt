@@ -1,5 +1,6 @@
 -- Object infos as bytes.
-use Rattle.std.specs.Prelude.{ℕ, Bool, true, List, Option, Result, is_some}
+use Rattle.std.specs.Prelude.{ℕ, Bool, true, List, Option, Some, None, Result, is_some}
+use Rattle.std.specs.Result.{result_ok}
 use Rattle.pgs_name.specs.declared.object_id.ObjectId.{ObjectId}
 use Rattle.pgs_request.specs.declared.version.Version.{Version}
 use Rattle.pgs_codec.specs.Fields.{Field, u32, u64, fixed, followed, seen, where_so, read_whole}
@@ -68,3 +69,8 @@ info_spelling = info.spell
 -- the info that a whole text spells, or the place at which the text is refused
 unfoldable pub read_info : List ℕ → Result ObjectInfo ℕ
 read_info = read_whole info
+
+-- the info in an attribute, if it is there and reads
+abbrev pub info_in : Option (List ℕ) → Option ObjectInfo
+info_in None = None
+info_in (Some text) = result_ok (read_info text)

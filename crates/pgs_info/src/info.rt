@@ -1,7 +1,8 @@
 ghost use Rattle.std.specs.Prelude.{◌≡◌, IsTrue, IfOk, Ok};
+ghost use Rattle.std.specs.Option.{option_copied};
 ghost use Rattle.pgs_codec.specs.Answers.{Decodes};
 ghost use Rattle.pgs_info.specs.declared.info.ObjectInfo.{ObjectInfo};
-ghost use Rattle.pgs_info.specs.Info.{info_spelling, info_fits, read_info};
+ghost use Rattle.pgs_info.specs.Info.{info_spelling, info_fits, read_info, info_in};
 
 use crate::reading::take_info;
 use crate::writing::put_info;
@@ -53,6 +54,20 @@ impl ObjectInfo {
         ensures only { (i : ObjectInfo) → IsTrue (info_fits i) → text.now ≡ info_spelling i → Decodes result (Ok i) }
     {
         decode_all(alloc, text)
+    }
+
+    /// The info in an attribute, if it is there and spells one.
+    pub fn read(alloc: Global, text: Option<&Bytes>) -> Result<Option<ObjectInfo>, AllocError>
+        ensures { IfOk result (λ info. info ≡ info_in (option_copied text.entry)) }
+    {
+        let Some(text) = text else {
+            return Ok(None);
+        };
+        match decode_all(alloc, text.as_slice()) {
+            Ok(info) => Ok(Some(info)),
+            Err(DecodeError::Corrupt { .. }) => Ok(None),
+            Err(DecodeError::Memory) => Err(AllocError),
+        }
     }
 }
 

@@ -3,6 +3,7 @@ pub mod Fronts
 pub mod ChoiceLaws
 pub mod ContextLaws
 pub mod OpLaws
+pub mod DamageLaws
 pub mod LineLaws
 pub mod Marked
 pub mod Behind

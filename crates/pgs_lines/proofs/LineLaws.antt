@@ -4,21 +4,20 @@ use Rattle.std.specs.Prelude.{option_map, codes}
 use Rattle.std.specs.List.{list_all}
 use Rattle.std.proofs.lemmas.Bool.Decides.{nat_tests}
 use Rattle.pgs_words.specs.Forms.{Form, field, last, nothing, each, has_some, no_row, read_rows}
-use Rattle.pgs_words.specs.Fields.{number, positive, positive_byte, plain_byte, number_of, digits_from}
+use Rattle.pgs_words.specs.Fields.{number, positive, plain_byte, number_of, digits_from}
 use Rattle.pgs_words.proofs.Laws.{FieldLaws, FormLaws, mapped_of}
 use Rattle.pgs_words.proofs.FormLaws.{nothing_laws, field_laws, last_laws, each_laws, such_form_laws, seen_field_laws, parts_laws}
 use Rattle.pgs_words.proofs.KindLaws.{IsKind, IsSpelled, kind_of, FindsSpelled, row_finds, no_row_finds, by_rows_finds, kinds_laws, keyword_laws}
-use Rattle.pgs_words.proofs.FieldLaws.{word_of_laws, dash_or_laws, number_word, positive_word, positive_byte_word}
+use Rattle.pgs_words.proofs.FieldLaws.{word_of_laws, dash_or_laws, number_word, positive_word}
 use Rattle.pgs_lines.specs.Choices.{word_or}
 use Rattle.pgs_lines.specs.Contexts.{context}
-use Rattle.pgs_lines.specs.Objects.{op, flip_form, damage_said, damage_rows, damage_read, damage, snap_of, clone_in, snap, kind_word, kind, space, key, name, named}
+use Rattle.pgs_lines.specs.Objects.{op, snap_of, clone_in, snap, kind_word, kind, space, key, name, named}
+use Rattle.pgs_lines.specs.Damages.{damage}
 use Rattle.pgs_lines.specs.Basics.{write_form, write_of, collect_form, member_form, damage_form, damage_of, basic_said, basic_rows, basic_read}
 use Rattle.pgs_lines.specs.Steps.{sweep_form, step_said, step_rows, basic_step_read, step_read}
 use Rattle.pgs_lines.specs.Lines.{osd_form, members_form, group_form, line_said, line_rows, step_line_read, line_read, line_form, line, in_line}
-use Rattle.pgs_lines.specs.declared.damage.Damage.{Damage}
-use Rattle.pgs_lines.specs.declared.damage.Damage.TheVariants.{Flip}
 use Rattle.pgs_lines.specs.declared.kind.Kind.{Kind}
-use Rattle.pgs_lines.specs.declared.kind.Kind.TheVariants.{Deep}
+use Rattle.pgs_lines.specs.declared.kind.Kind.TheVariants.{Shallow, Deep}
 use Rattle.pgs_lines.specs.declared.snap.Snap.{Snap}
 use Rattle.pgs_lines.specs.declared.snap.Snap.TheVariants as snaps
 use Rattle.pgs_lines.specs.declared.basic.Basic.{Basic}
@@ -30,24 +29,7 @@ use Rattle.pgs_lines.specs.declared.line.Line.TheVariants as lines
 use Rattle.pgs_lines.proofs.ChoiceLaws.{word_or_laws}
 use Rattle.pgs_lines.proofs.ContextLaws.{context_laws}
 use Rattle.pgs_lines.proofs.OpLaws.{op_laws}
-
--- ---- what damage does
-
-flip_laws : FormLaws plain_byte flip_form
-flip_laws = field_laws plain_byte number (last positive_byte) number_word (last_laws plain_byte positive_byte positive_byte_word)
-
-damage_kind : (x : Damage) → IsKind plain_byte damage_read (damage_said x) x
-unfolding damage_read damage_rows
-damage_kind (Flip at xor) = kind_of plain_byte damage_read (codes "flip") flip_form (λ x. Flip x.0 x.1) flip_laws (λ ws. refl) refl (at, xor)
-
-damage_finds : FindsSpelled damage_said damage_read
-unfolding damage_read damage_rows
-damage_finds = by_rows_finds damage_said damage_rows no_row
-    (row_finds plain_byte damage_said (codes "flip") flip_form (λ x. Flip x.0 x.1) flip_laws (λ y. refl), tt)
-    (no_row_finds damage_said)
-
-damage_laws : FormLaws plain_byte damage
-damage_laws = kinds_laws plain_byte damage_said damage_read damage_kind damage_finds
+use Rattle.pgs_lines.proofs.DamageLaws.{damage_laws}
 
 -- ---- words for values
 
@@ -68,13 +50,15 @@ snap_laws = seen_field_laws plain_byte snap_of clone_in (word_or (codes "head") 
     (word_or_laws plain_byte (codes "head") positive refl head_is_none positive_word) snap_again clone_again
 
 kind_again : (x : Kind) → kind.read (kind_word x) ≡ Some x
+kind_again Shallow = refl
 kind_again Deep = refl
 
 kind_keeps : (x : Kind) → list_all plain_byte (kind_word x) ≡ true
+kind_keeps Shallow = refl
 kind_keeps Deep = refl
 
 kind_laws : FieldLaws plain_byte kind
-kind_laws = keyword_laws plain_byte kind_word ((codes "deep", Deep) ∷ []) (refl, tt) kind_again kind_keeps
+kind_laws = keyword_laws plain_byte kind_word ((codes "shallow", Shallow) ∷ (codes "deep", Deep) ∷ []) (refl, (refl, tt)) kind_again kind_keeps
 
 -- ---- steps that do one thing
 

@@ -63,7 +63,7 @@ payload_laws = fronts_laws plain_byte payload_said payload_read payload_kind pay
 
 -- ---- what a write does
 
-last_payload_laws : FormLaws plain_byte last_payload
+pub last_payload_laws : FormLaws plain_byte last_payload
 last_payload_laws = last_laws plain_byte payload payload_laws
 
 attr_name_laws : FieldLaws plain_byte attr_name
@@ -72,7 +72,7 @@ attr_name_laws = such_laws plain_byte is_user (word_of 1 64) (word_of_laws 1 64)
 put_laws : FormLaws plain_byte put_form
 put_laws = field_laws plain_byte number last_payload number_word last_payload_laws
 
-size_laws : FormLaws plain_byte (last number)
+pub size_laws : FormLaws plain_byte (last number)
 size_laws = last_laws plain_byte number number_word
 
 attr_laws : FormLaws plain_byte attr_form
@@ -81,10 +81,10 @@ attr_laws = field_laws plain_byte attr_name last_payload attr_name_laws last_pay
 rmattr_laws : FormLaws plain_byte (last attr_name)
 rmattr_laws = last_laws plain_byte attr_name attr_name_laws
 
-omap_laws : FormLaws plain_byte omap_form
+pub omap_laws : FormLaws plain_byte omap_form
 omap_laws = field_laws plain_byte omap_key last_payload (word_of_laws 1 255) last_payload_laws
 
-rmomap_laws : FormLaws plain_byte (last omap_key)
+pub rmomap_laws : FormLaws plain_byte (last omap_key)
 rmomap_laws = last_laws plain_byte omap_key (word_of_laws 1 255)
 
 op_kind : (x : Op) → IsKind plain_byte op_read (op_said x) x

@@ -4,7 +4,8 @@ use Rattle.pgs_words.specs.Forms.{Form, Row, Spelling, field, last, said, row, b
 use Rattle.pgs_words.specs.Fields.{number}
 use Rattle.pgs_request.specs.declared.op.Op.{Op}
 use Rattle.pgs_lines.specs.Contexts.{context}
-use Rattle.pgs_lines.specs.Objects.{op, damage, snap, named}
+use Rattle.pgs_lines.specs.Objects.{op, snap, named}
+use Rattle.pgs_lines.specs.Damages.{damage}
 use Rattle.pgs_lines.specs.declared.context.Context.{Context}
 use Rattle.pgs_lines.specs.declared.damage.Damage.{Damage}
 use Rattle.pgs_lines.specs.declared.snap.Snap.{Snap}

@@ -19,6 +19,8 @@ use Rattle.pgs_lines.specs.Scrubs.{begin_words, open_words, close_words}
 use Rattle.pgs_lines.specs.declared.basic.Basic.TheVariants as basics
 use Rattle.pgs_lines.specs.declared.apply_answer.ApplyAnswer.{ApplyAnswer}
 use Rattle.pgs_lines.specs.declared.apply_answer.ApplyAnswer.TheVariants as applies
+use Rattle.pgs_lines.specs.declared.damage_answer.DamageAnswer.{DamageAnswer}
+use Rattle.pgs_lines.specs.declared.damage_answer.DamageAnswer.TheVariants as damage_answers
 use Rattle.pgs_lines.specs.declared.done.Done.{Done}
 use Rattle.pgs_lines.specs.declared.done.Done.TheVariants as dones
 
@@ -53,6 +55,10 @@ apply_words (applies.Applied number) = codes "applied" ∷ decimal number ∷ []
 apply_words (applies.NotYet applied) = codes "not-yet" ∷ decimal applied ∷ []
 apply_words (applies.DeviceFault count) = codes "device-fault" ∷ decimal count ∷ []
 
+abbrev pub damage_words : DamageAnswer → List (List ℕ)
+damage_words damage_answers.Damaged = codes "damaged" ∷ []
+damage_words (damage_answers.ShardFull bytes) = codes "shard-full" ∷ decimal bytes ∷ []
+
 -- ---- lines
 
 -- the words of what was done, as a script spells them, with its object as it is kept and its context as it is printed
@@ -62,7 +68,7 @@ step_words (dones.Collect group client serial answer) = (basic_said (basics.Coll
 step_words (dones.Pull group osd before now) = (basic_said (basics.Pull group osd)).words
 step_words (dones.Apply group osd answer) = (basic_said (basics.Apply group osd)).words
 step_words (dones.Tell group osd applied) = (basic_said (basics.Tell group osd)).words
-step_words (dones.Damage group osd object snap damage) = (basic_said (basics.Damage group osd (as_kept object) snap damage)).words
+step_words (dones.Damage group osd object snap damage answer) = (basic_said (basics.Damage group osd (as_kept object) snap damage)).words
 step_words (dones.Begin group kind answer) = codes "begin" ∷ decimal group ∷ kind_word kind ∷ []
 step_words (dones.Open group answer) = codes "open" ∷ decimal group ∷ []
 step_words (dones.Close group answer) = codes "close" ∷ decimal group ∷ []
@@ -73,7 +79,7 @@ answer_words (dones.Collect group client serial answer) = collect_words answer
 answer_words (dones.Pull group osd before now) = codes "pulled" ∷ decimal before ∷ decimal now ∷ []
 answer_words (dones.Apply group osd answer) = apply_words answer
 answer_words (dones.Tell group osd applied) = codes "told" ∷ decimal applied ∷ []
-answer_words (dones.Damage group osd object snap damage) = codes "damaged" ∷ []
+answer_words (dones.Damage group osd object snap damage answer) = damage_words answer
 answer_words (dones.Begin group kind answer) = begin_words group answer
 answer_words (dones.Open group answer) = open_words answer
 answer_words (dones.Close group answer) = close_words answer

@@ -3,6 +3,7 @@ pub mod Payload
 pub mod Choices
 pub mod Contexts
 pub mod Objects
+pub mod Damages
 pub mod Basics
 pub mod Steps
 pub mod Lines

@@ -1,16 +1,14 @@
 -- What is done to objects, and the words that name an object.
 use Rattle.std.specs.Prelude.{ℕ, ◌==◌, ◌&&◌, Bool, false, not, List, [], ◌∷◌, length, Option, Some, None, option_map, codes}
 use Rattle.pgs_words.specs.Forms.{Field, Form, Row, Spelling, nothing, field, last, such, seen_field, kinds, said, row, by_rows, no_row, keyword}
-use Rattle.pgs_words.specs.Fields.{number, positive, positive_byte, word_of, dash_or}
+use Rattle.pgs_words.specs.Fields.{number, positive, word_of, dash_or}
 use Rattle.pgs_request.specs.declared.payload.Payload.{Payload}
 use Rattle.pgs_request.specs.declared.op.Op.{Op}
 use Rattle.pgs_request.specs.declared.op.Op.TheVariants as ops
 use Rattle.pgs_lines.specs.Choices.{word_or}
 use Rattle.pgs_lines.specs.Payload.{payload}
-use Rattle.pgs_lines.specs.declared.damage.Damage.{Damage}
-use Rattle.pgs_lines.specs.declared.damage.Damage.TheVariants.{Flip}
 use Rattle.pgs_lines.specs.declared.kind.Kind.{Kind}
-use Rattle.pgs_lines.specs.declared.kind.Kind.TheVariants.{Deep}
+use Rattle.pgs_lines.specs.declared.kind.Kind.TheVariants.{Shallow, Deep}
 use Rattle.pgs_lines.specs.declared.snap.Snap.{Snap}
 use Rattle.pgs_lines.specs.declared.snap.Snap.TheVariants as snaps
 
@@ -96,26 +94,6 @@ rmomap_read words = option_map (λ k. ops.RmOmap k) ((last omap_key).read words)
 abbrev pub remove_read : List (List ℕ) → Option Op
 remove_read words = option_map (λ x. ops.Remove) (nothing.read words)
 
--- ---- what damage does
-
-abbrev pub flip_form : Form (ℕ × ℕ)
-flip_form = field number (last positive_byte)
-
-abbrev pub damage_said : Damage → Spelling
-damage_said (Flip at xor) = said (codes "flip") flip_form (at, xor)
-
-abbrev pub flip_read : List (List ℕ) → Option Damage
-flip_read words = option_map (λ x. Flip x.0 x.1) (flip_form.read words)
-
-unfoldable pub damage_rows : List (Row Damage)
-damage_rows = row (codes "flip") flip_form (λ x. Flip x.0 x.1) ∷ []
-
-unfoldable pub damage_read : List ℕ → List (List ℕ) → Option Damage
-damage_read word words = by_rows damage_rows no_row word words
-
-abbrev pub damage : Form Damage
-damage = kinds damage_said damage_read
-
 -- ---- words for values
 
 abbrev pub snap_of : Option ℕ → Snap
@@ -131,10 +109,11 @@ abbrev pub snap : Field Snap
 snap = seen_field snap_of clone_in (word_or (codes "head") positive)
 
 abbrev pub kind_word : Kind → List ℕ
+kind_word Shallow = codes "shallow"
 kind_word Deep = codes "deep"
 
 abbrev pub kind : Field Kind
-kind = keyword kind_word ((codes "deep", Deep) ∷ [])
+kind = keyword kind_word ((codes "shallow", Shallow) ∷ (codes "deep", Deep) ∷ [])
 
 -- ---- SPACE KEY NAME, and then others
 

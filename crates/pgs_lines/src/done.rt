@@ -2,6 +2,7 @@ use crate::apply_answer::ApplyAnswer;
 use crate::begin_answer::BeginAnswer;
 use crate::close_answer::CloseAnswer;
 use crate::damage::Damage;
+use crate::damage_answer::DamageAnswer;
 use crate::kind::Kind;
 use crate::object::Object;
 use crate::open_answer::OpenAnswer;
@@ -66,7 +67,7 @@ pub enum Done {
         /// The number of the last item that it stored.
         applied: u64,
     },
-    /// A stored copy changed.
+    /// A stored copy was to change.
     Damage {
         /// The group.
         group: u32,
@@ -78,6 +79,8 @@ pub enum Done {
         snap: Snap,
         /// The change.
         damage: Damage,
+        /// The answer.
+        answer: DamageAnswer,
     },
     /// A scrub was to begin.
     Begin {

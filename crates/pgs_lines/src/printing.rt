@@ -1,6 +1,7 @@
 //! How what was done is printed.
 mod answers;
 mod contexts;
+mod damages;
 mod lines;
 mod objects;
 mod ops;

@@ -1,6 +1,7 @@
 //! The readers of lines.
 mod basics;
 mod contexts;
+mod damages;
 mod lines;
 mod objects;
 mod ops;

@@ -1,2 +1,3 @@
 -- Entries are found by halves.
 pub mod Found
+pub mod Texts

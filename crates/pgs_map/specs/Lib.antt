@@ -1,2 +1,3 @@
 -- Entries of stored copies.
+pub mod Digests
 pub mod Entries

@@ -50,20 +50,6 @@ impl RamMedium {
             failed_lists: 0,
         }
     }
-
-    /// The copy at a snap of a family. It is no call of the device.
-    pub fn copy(&self, family: &Family, snap: u64) -> Option<&ObjCopy>
-        ensures { option_copied result ≡ (device_of self.now).stored family.now snap }
-    {
-        self.store.copy(family, snap)
-    }
-
-    /// The least position behind a cursor and below a bound. It is no call of the device.
-    pub fn least(&self, cursor: &Cursor, to: &Bound) -> Result<Option<ObjectId>, AllocError>
-        ensures { IfOk result (λ next. IsNext (is_stored (device_of self.now).stored) cursor.now to.now next) }
-    {
-        self.store.next(cursor, to)
-    }
 }
 
 impl Medium for RamMedium {
@@ -98,6 +84,14 @@ impl Medium for RamMedium {
 
     fn damage(&mut self, family: &Family, snap: u64, damage: &Damage) -> Result<(), AllocError> {
         self.store.damage(self.alloc, family, snap, damage)
+    }
+
+    fn copy(&self, family: &Family, snap: u64) -> Option<&ObjCopy> {
+        self.store.copy(family, snap)
+    }
+
+    fn least(&self, cursor: &Cursor, to: &Bound) -> Result<Option<ObjectId>, AllocError> {
+        self.store.next(cursor, to)
     }
 
     fn faults(&self) -> u64 {

@@ -1,36 +1,22 @@
 -- What the clean store tells a write of the head of its object.
-use Rattle.std.specs.Prelude.{ℕ, Bool, false, not, ◌&&◌, if◌then◌else◌, List, [], length, Option, Some, None, is_some, Result, Ok, Err}
+use Rattle.std.specs.Prelude.{ℕ, Bool, false, not, ◌&&◌, if◌then◌else◌, List, [], length, Option, Some, None, is_some}
 use Rattle.pgs_copy.specs.Copies.{info_name, snapset_name}
 use Rattle.pgs_copy.specs.Pairs.{value_at}
 use Rattle.pgs_copy.specs.declared.obj_copy.ObjCopy.{ObjCopy}
-use Rattle.pgs_info.specs.Info.{read_info}
+use Rattle.pgs_info.specs.Info.{info_in}
 use Rattle.pgs_info.specs.declared.info.ObjectInfo.{ObjectInfo}
-use Rattle.pgs_snapset.specs.Spelling.{read_snapset}
+use Rattle.pgs_snapset.specs.Spelling.{snapset_in}
 use Rattle.pgs_snapset.specs.declared.snapset.SnapSet.{SnapSet}
 use Rattle.pgs_op.specs.declared.head.Head.{Head}
-
--- what was read, where it reads
-abbrev pub readable : {A : Type 0} → Result A ℕ → Option A
-readable (Ok a) = Some a
-readable (Err at) = None
 
 -- the snapset of an object that has no clones, and of which no snap is known
 abbrev pub no_snapset : SnapSet
 no_snapset = record { seq = 0; clones = [] }
 
--- the object info in an attribute, if it is there and reads
-abbrev pub info_in : Option (List ℕ) → Option ObjectInfo
-info_in None = None
-info_in (Some text) = readable (read_info text)
-
--- the snapset in an attribute, or else that of an object with no clones
-abbrev pub snapset_or_none : Option SnapSet → SnapSet
-snapset_or_none None = no_snapset
-snapset_or_none (Some set) = set
-
-abbrev pub snapset_in : Option (List ℕ) → SnapSet
-snapset_in None = no_snapset
-snapset_in (Some text) = snapset_or_none (readable (read_snapset text))
+-- a snapset, or else that of an object with no clones
+abbrev pub or_no_snapset : Option SnapSet → SnapSet
+or_no_snapset None = no_snapset
+or_no_snapset (Some set) = set
 
 -- an info marks a whiteout: the head was removed, and is kept for the sake of its clones
 abbrev pub is_whiteout : Option ObjectInfo → Bool
@@ -55,7 +41,7 @@ is_there copy info = is_some copy && not (is_whiteout info)
 abbrev pub head_of : Option ObjCopy → Head
 head_of copy = record {
   info = info_in (attr_of info_name copy);
-  snapset = snapset_in (attr_of snapset_name copy);
+  snapset = or_no_snapset (snapset_in (attr_of snapset_name copy));
   exists = is_there copy (info_in (attr_of info_name copy));
   size = if is_there copy (info_in (attr_of info_name copy)) then data_size copy else 0;
 }

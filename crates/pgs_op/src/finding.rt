@@ -2,13 +2,12 @@
 ghost use Rattle.std.specs.Prelude.{◌≡◌, IfOk, if◌then◌else◌};
 ghost use Rattle.std.specs.Option.{option_copied};
 ghost use Rattle.pgs_copy.specs.Copies.{info_name, snapset_name};
-ghost use Rattle.pgs_info.specs.Info.{read_info as info_read};
-ghost use Rattle.pgs_snapset.specs.Spelling.{read_snapset as snapset_read};
+ghost use Rattle.pgs_info.specs.Info.{info_in};
+ghost use Rattle.pgs_snapset.specs.Spelling.{snapset_in};
 ghost use Rattle.pgs_op.specs.Heads as heads;
 
 use crate::head::Head;
 use pgs_bytes::Bytes;
-use pgs_codec::DecodeError;
 use pgs_copy::ObjCopy;
 use pgs_info::ObjectInfo;
 use pgs_snapset::{Clones, SnapSet};
@@ -46,42 +45,19 @@ fn attr_of<'a>(
 }
 
 fn recorded_info(alloc: Global, copy: Option<&ObjCopy>) -> Result<Option<ObjectInfo>, AllocError>
-    ensures { IfOk result (λ info. info ≡ heads.info_in (heads.attr_of info_name (option_copied copy.entry))) }
+    ensures { IfOk result (λ info. info ≡ info_in (heads.attr_of info_name (option_copied copy.entry))) }
 {
-    match attr_of(alloc, b"_", copy)? {
-        Some(text) => read_info(alloc, text.as_slice()),
-        None => Ok(None),
-    }
-}
-
-// An info that doesn't read tells a write nothing.
-fn read_info(alloc: Global, text: &[u8]) -> Result<Option<ObjectInfo>, AllocError>
-    ensures { IfOk result (λ info. info ≡ heads.readable (info_read text.now)) }
-{
-    match ObjectInfo::decode(alloc, text) {
-        Ok(info) => Ok(Some(info)),
-        Err(DecodeError::Corrupt { .. }) => Ok(None),
-        Err(DecodeError::Memory) => Err(AllocError),
-    }
+    let text = attr_of(alloc, b"_", copy)?;
+    ObjectInfo::read(alloc, text)
 }
 
 fn recorded_snapset(alloc: Global, copy: Option<&ObjCopy>) -> Result<SnapSet, AllocError>
-    ensures { IfOk result (λ set. set ≡ heads.snapset_in (heads.attr_of snapset_name (option_copied copy.entry))) }
+    ensures { IfOk result (λ set. set ≡ heads.or_no_snapset (snapset_in (heads.attr_of snapset_name (option_copied copy.entry)))) }
 {
-    match attr_of(alloc, b"snapset", copy)? {
-        Some(text) => read_snapset(alloc, text.as_slice()),
+    let text = attr_of(alloc, b"snapset", copy)?;
+    match SnapSet::read(alloc, text)? {
+        Some(set) => Ok(set),
         None => Ok(no_snapset(alloc)),
-    }
-}
-
-// Nor does a snapset that doesn't read.
-fn read_snapset(alloc: Global, text: &[u8]) -> Result<SnapSet, AllocError>
-    ensures { IfOk result (λ set. set ≡ heads.snapset_or_none (heads.readable (snapset_read text.now))) }
-{
-    match SnapSet::decode(alloc, text) {
-        Ok(set) => Ok(set),
-        Err(DecodeError::Corrupt { .. }) => Ok(no_snapset(alloc)),
-        Err(DecodeError::Memory) => Err(AllocError),
     }
 }
 

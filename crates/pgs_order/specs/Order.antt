@@ -6,6 +6,8 @@ use Rattle.pgs_request.specs.declared.payload.Payload.{Payload}
 use Rattle.pgs_request.specs.declared.op.Op.{Op}
 use Rattle.pgs_request.specs.declared.op.Op.TheVariants.{SetAttr, SetOmap, SetHeader}
 use Rattle.pgs_lines.specs.Contexts.{meant}
+use Rattle.pgs_lines.specs.declared.damage.Damage.{Damage}
+use Rattle.pgs_lines.specs.declared.damage.Damage.TheVariants as damages
 use Rattle.pgs_lines.specs.declared.basic.Basic.{Basic}
 use Rattle.pgs_lines.specs.declared.basic.Basic.TheVariants as basics
 use Rattle.pgs_lines.specs.declared.step.Step.{Step}
@@ -125,9 +127,22 @@ op_passes (SetOmap key payload) = is_long payload
 op_passes (SetHeader payload) = is_long payload
 op_passes op = false
 
+-- the data that damage puts in the place of a copy's own has at most 4,194,304 bytes, as an object's
+abbrev pub is_large : Payload → Bool
+is_large payload = nat_lt 4194304 (size_of payload)
+
+-- what damage puts into a copy has the limits of what it takes the place of
+abbrev pub damage_passes : Damage → Bool
+damage_passes (damages.SetData payload) = is_large payload
+damage_passes (damages.SetAttr name payload) = is_long payload
+damage_passes (damages.SetOmap key payload) = is_long payload
+damage_passes (damages.SetHeader payload) = is_long payload
+damage_passes damage = false
+
 -- and a context has at most 64 snaps
 abbrev pub basic_passes : Basic → Bool
 basic_passes (basics.Write client serial object context op) = nat_lt 64 (length (meant context).snaps) || op_passes op
+basic_passes (basics.Damage group osd object snap damage) = damage_passes damage
 basic_passes basic = false
 
 abbrev pub step_passes : Step → Bool

@@ -5,15 +5,24 @@ ghost use Rattle.pgs_map.specs.Entries.{AreInRange};
 
 use pgs_bytes::Bytes;
 use pgs_chunk::Limits;
+use pgs_copy::Pairs;
 use pgs_history::Made;
+use pgs_info::ObjectInfo;
 use pgs_map::{Entry, ScrubMap};
 use pgs_name::{HEAD, NameError, ObjectId, compare};
 use pgs_op::Write;
 use pgs_range::FamilyRange;
-use pgs_request::{Op, Payload, ReqId, SnapContext, Snaps};
+use pgs_request::{Op, Payload, ReqId, SnapContext, Snaps, Version};
+use pgs_snapset::{Clones, SnapSet};
 use sqlite_items::Items;
 use std::alloc::{AllocError, Global};
 use std::cmp::Ordering;
+
+/// The CRC-32C of the byte x with no inversion at its end, computed by another program.
+pub const DIGEST: u32 = 0x56C3_A06C;
+
+// The digest of an object without omap and header: the CRC-32C of four zero bytes with no inversion at its end.
+const NO_OMAP: u32 = 0xB798_B438;
 
 /// A group of the OSDs 0, 1 and 2, whose chunks have one position each.
 pub fn made(alloc: Global, preemptions: u32) -> Result<Made, AllocError> {
@@ -89,6 +98,56 @@ pub fn last_head(alloc: Global) -> Result<Items<ObjectId>, NameError>
     let mut ids = Items::new(alloc);
     ids.push(last)?;
     Ok(ids)
+}
+
+// What is recorded of an object with the one byte x, which was written whole.
+fn info(id: ObjectId) -> ObjectInfo {
+    ObjectInfo {
+        id,
+        version: Version {
+            epoch: 4,
+            number: 1,
+        },
+        prior: Version {
+            epoch: 0,
+            number: 0,
+        },
+        size: 1,
+        data_digest: Some(DIGEST),
+        omap_digest: None,
+        whiteout: false,
+    }
+}
+
+fn snapset(alloc: Global) -> SnapSet {
+    SnapSet {
+        seq: 0,
+        clones: Clones::new(alloc),
+    }
+}
+
+// The attributes of a head.
+fn attrs(alloc: Global, id: ObjectId) -> Result<Pairs, AllocError> {
+    let mut attrs = Pairs::new(alloc);
+    let recorded = info(id).encode(alloc)?;
+    attrs.set(Bytes::from_slice(alloc, b"_")?, recorded)?;
+    let clones = snapset(alloc).encode(alloc)?;
+    attrs.set(Bytes::from_slice(alloc, b"snapset")?, clones)?;
+    Ok(attrs)
+}
+
+/// What a member tells of a head with one byte, whose digest is this.
+pub fn entry(alloc: Global, id: ObjectId, digest: u32) -> Result<Entry, AllocError> {
+    let attrs = attrs(alloc, id.clone()?)?;
+    Ok(Entry {
+        id,
+        stat_failed: false,
+        read_failed: false,
+        size: 1,
+        attrs,
+        data_digest: Some(digest),
+        omap_digest: Some(NO_OMAP),
+    })
 }
 
 // One entry, where that is of the range.

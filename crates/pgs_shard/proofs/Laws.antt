@@ -9,6 +9,7 @@ use Rattle.pgs_shard.specs.Feeds.{AreNumbered, beyond, fed, item_of}
 use Rattle.pgs_shard.specs.Stores.{applied, after_item, stored_by, last_count}
 use Rattle.pgs_shard.specs.Legal.{IsLegal}
 use Rattle.pgs_shard.specs.Laws.{upto, then_item, applied_items, AreFirst, after_items, AreHarmless, counts, IsLawful}
+use Rattle.pgs_shard.specs.declared.damage_answer.DamageAnswer.TheVariants as answers
 use Rattle.pgs_shard.specs.declared.event.Event.{Event}
 use Rattle.pgs_shard.specs.declared.event.Event.TheVariants.{Fed, Applied, DeviceFault, ListFailed, Damaged}
 use Rattle.pgs_shard.proofs.Feeds.{numbered_more}
@@ -20,7 +21,7 @@ numbered (Fed from items ∷ past) legal = numbered_more (length (fed past)) fro
 numbered (Applied number ∷ past) legal = numbered past legal.1
 numbered (DeviceFault count ∷ past) legal = numbered past legal.1
 numbered (ListFailed count ∷ past) legal = numbered past legal.1
-numbered (Damaged family snap damage ∷ past) legal = numbered past legal.1
+numbered (Damaged family snap damage answer ∷ past) legal = numbered past legal.1
 
 -- no item is applied that wasn't fed
 pub within : (past : List Event) → IsLegal past → applied past ≤ length (fed past)
@@ -29,7 +30,7 @@ within (Fed from items ∷ past) legal = omega (arith, within past legal.1, leng
 within (Applied number ∷ past) legal = legal.0.1
 within (DeviceFault count ∷ past) legal = within past legal.1
 within (ListFailed count ∷ past) legal = within past legal.1
-within (Damaged family snap damage ∷ past) legal = within past legal.1
+within (Damaged family snap damage answer ∷ past) legal = within past legal.1
 
 -- newer items don't change the items up to a number
 upto_onto : (number : ℕ) (new items : List Item) → AreNumbered (new ++ items) → number ≤ length items → upto number (new ++ items) ≡ upto number items
@@ -95,7 +96,7 @@ are_first (Applied number ∷ past) legal =
     (ap (then_item (item_of (applied past + 1) (fed past))) (are_first past legal.1) ∙ upto_next (applied past) (fed past) (numbered past legal.1) more)
 are_first (DeviceFault count ∷ past) legal = are_first past legal.1
 are_first (ListFailed count ∷ past) legal = are_first past legal.1
-are_first (Damaged family snap damage ∷ past) legal = are_first past legal.1
+are_first (Damaged family snap damage answer ∷ past) legal = are_first past legal.1
 
 after_then : (asked : Option Item) (items : List Item) → after_item asked (after_items items) ≡ after_items (then_item asked items)
 after_then None items = refl
@@ -109,7 +110,8 @@ stored_whole (Applied number ∷ past) harmless =
     ap (after_item (item_of number (fed past))) (stored_whole past harmless.1) ∙ after_then (item_of number (fed past)) (applied_items past)
 stored_whole (DeviceFault count ∷ past) harmless = stored_whole past harmless.1
 stored_whole (ListFailed count ∷ past) harmless = stored_whole past harmless.1
-stored_whole (Damaged family snap damage ∷ past) harmless = absurd (true_false (sym harmless.0))
+stored_whole (Damaged family snap damage answers.Damaged ∷ past) harmless = absurd (true_false (sym harmless.0))
+stored_whole (Damaged family snap damage (answers.ShardFull bytes) ∷ past) harmless = stored_whole past harmless.1
 
 below_more : (old new : ℕ) (ns : List ℕ) → old ≤ new → AllByRecursion (λ n. n ≤ old) ns → AllByRecursion (λ n. n ≤ new) ns
 below_more old new [] up all = tt
@@ -121,7 +123,7 @@ counts_rise (Fed from items ∷ past) legal = counts_rise past legal.1
 counts_rise (Applied number ∷ past) legal = counts_rise past legal.1
 counts_rise (DeviceFault count ∷ past) legal = (omega arith, below_more (last_count past) count (counts past) legal.0.1.kept (counts_rise past legal.1))
 counts_rise (ListFailed count ∷ past) legal = (omega arith, below_more (last_count past) count (counts past) legal.0.kept (counts_rise past legal.1))
-counts_rise (Damaged family snap damage ∷ past) legal = counts_rise past legal.1
+counts_rise (Damaged family snap damage answer ∷ past) legal = counts_rise past legal.1
 
 pub lawful : (past : List Event) → IsLegal past → IsLawful past
 lawful past legal = record {

@@ -4,3 +4,5 @@ pub mod Laws
 pub mod Ties
 pub mod Positions
 pub mod Listings
+pub mod Sizes
+pub mod Sums

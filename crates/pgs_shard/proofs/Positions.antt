@@ -23,6 +23,7 @@ use Rattle.pgs_medium.specs.declared.item.Item.{Item}
 use Rattle.pgs_shard.specs.Feeds.{fed, item_of}
 use Rattle.pgs_shard.specs.Stores.{after_item, stored_by}
 use Rattle.pgs_shard.specs.Listed.{with_named, with_item, touched, positions}
+use Rattle.pgs_shard.specs.declared.damage_answer.DamageAnswer.TheVariants as answers
 use Rattle.pgs_shard.specs.declared.event.Event.{Event}
 use Rattle.pgs_shard.specs.declared.event.Event.TheVariants.{Fed, Applied, DeviceFault, ListFailed, Damaged}
 
@@ -93,7 +94,8 @@ touched_has (Fed from items ∷ past) id there = touched_has past id there
 touched_has (Applied number ∷ past) id there = item_has (item_of number (fed past)) (stored_by past) (touched past) id (touched_has past id) there
 touched_has (DeviceFault count ∷ past) id there = touched_has past id there
 touched_has (ListFailed count ∷ past) id there = touched_has past id there
-touched_has (Damaged family snap damage ∷ past) id there = harmed_has family snap damage (stored_by past) (touched past) id (touched_has past id) there
+touched_has (Damaged family snap damage answers.Damaged ∷ past) id there = harmed_has family snap damage (stored_by past) (touched past) id (touched_has past id) there
+touched_has (Damaged family snap damage (answers.ShardFull bytes) ∷ past) id there = touched_has past id there
 
 named_ascends : (family : Family) (effects : List (ℕ × Effect)) (before : List ObjectId) → Ascends before → Ascends (with_named family effects before)
 named_ascends family [] before h = h
@@ -109,7 +111,8 @@ touched_ascends (Fed from items ∷ past) = touched_ascends past
 touched_ascends (Applied number ∷ past) = item_ascends (item_of number (fed past)) (touched past) (touched_ascends past)
 touched_ascends (DeviceFault count ∷ past) = touched_ascends past
 touched_ascends (ListFailed count ∷ past) = touched_ascends past
-touched_ascends (Damaged family snap damage ∷ past) = placed_ascends (at_snap family snap) (touched past) (touched_ascends past)
+touched_ascends (Damaged family snap damage answers.Damaged ∷ past) = placed_ascends (at_snap family snap) (touched past) (touched_ascends past)
+touched_ascends (Damaged family snap damage (answers.ShardFull bytes) ∷ past) = touched_ascends past
 
 held_only : (held there : Bool) → (held ≡ true → there ≡ true) → (held && there) ≡ held
 held_only true there f = f refl

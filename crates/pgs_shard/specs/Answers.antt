@@ -2,7 +2,7 @@
 use Rattle.std.specs.Prelude.{ℕ, ◌≡◌, ◌+◌, ◌<◌, List, ◌∷◌, length, Option, Some, None, Result, Ok, Err}
 use Rattle.pgs_name.specs.Families.{Family}
 use Rattle.pgs_copy.specs.declared.damage.Damage.{Damage}
-use Rattle.pgs_medium.specs.Device.{Device, IsWritten, IsDone, IsFailed}
+use Rattle.pgs_medium.specs.Device.{Device, IsWritten, IsDone, IsFailed, with_damage}
 use Rattle.pgs_medium.specs.declared.call_kind.CallKind.TheVariants as kinds
 use Rattle.pgs_medium.specs.declared.item.Item.{Item}
 use Rattle.pgs_medium.specs.declared.medium_error.MediumError.{MediumError}
@@ -12,6 +12,8 @@ use Rattle.pgs_shard.specs.declared.event.Event.{Event}
 use Rattle.pgs_shard.specs.declared.event.Event.TheVariants as event
 use Rattle.pgs_shard.specs.declared.applied.Applied.{Applied}
 use Rattle.pgs_shard.specs.declared.applied.Applied.TheVariants as applied
+use Rattle.pgs_shard.specs.declared.damage_answer.DamageAnswer.{DamageAnswer}
+use Rattle.pgs_shard.specs.declared.damage_answer.DamageAnswer.TheVariants as damages
 use Rattle.pgs_shard.specs.declared.apply_error.ApplyError.{ApplyError}
 use Rattle.pgs_shard.specs.declared.apply_error.ApplyError.TheVariants.{DeviceFault, Memory}
 
@@ -44,7 +46,13 @@ abbrev pub IsDeviceFault : Result Applied ApplyError → Type 0
 IsDeviceFault (Err (DeviceFault count)) = Unit {0}
 IsDeviceFault _ = ⊥
 
+-- what damage leaves of a device, by its answer: nothing changes where it is refused, or where memory runs out
+abbrev pub IsDamaged : {E : Type 0} → Family → ℕ → Damage → Device → Result DamageAnswer E → Device → Type 0
+IsDamaged family snap damage old (Ok damages.Damaged) new = new ≡ with_damage family snap damage old
+IsDamaged family snap damage old (Ok (damages.ShardFull bytes)) new = new ≡ old
+IsDamaged family snap damage old (Err _) new = new ≡ old
+
 -- the history after damage, which is kept where memory was there
-abbrev pub past_after_damage : {A E : Type 0} → Family → ℕ → Damage → Result A E → List Event → List Event
-past_after_damage family snap damage (Ok _) past = event.Damaged family snap damage ∷ past
+abbrev pub past_after_damage : {E : Type 0} → Family → ℕ → Damage → Result DamageAnswer E → List Event → List Event
+past_after_damage family snap damage (Ok answer) past = event.Damaged family snap damage answer ∷ past
 past_after_damage family snap damage (Err _) past = past

@@ -7,6 +7,7 @@ use Rattle.pgs_shard.specs.Feeds.{fed, item_of}
 use Rattle.pgs_shard.specs.Stores.{applied, last_count, stored_by}
 use Rattle.pgs_shard.specs.declared.event.Event.{Event}
 use Rattle.pgs_shard.specs.declared.event.Event.TheVariants.{Applied, DeviceFault, ListFailed, Damaged}
+use Rattle.pgs_shard.specs.declared.damage_answer.DamageAnswer.TheVariants as answers
 
 -- the items up to a number, of items with the newest first
 abbrev pub upto : ℕ → List Item → List Item
@@ -37,9 +38,9 @@ abbrev pub after_items : List Item → Stored
 after_items [] = nothing_stored
 after_items (item ∷ items) = affected item.family item.effects (after_items items)
 
--- an event does no damage
+-- an event does no damage: that which is refused does none
 abbrev pub is_harmless : Event → Bool
-is_harmless (Damaged family snap damage) = false
+is_harmless (Damaged family snap damage answers.Damaged) = false
 is_harmless _ = true
 
 -- no copy was damaged

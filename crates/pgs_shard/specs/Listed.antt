@@ -15,6 +15,7 @@ use Rattle.pgs_shard.specs.Feeds.{fed, item_of}
 use Rattle.pgs_shard.specs.Stores.{stored_by}
 use Rattle.pgs_shard.specs.declared.event.Event.{Event}
 use Rattle.pgs_shard.specs.declared.event.Event.TheVariants.{Applied, Damaged, ListFailed}
+use Rattle.pgs_shard.specs.declared.damage_answer.DamageAnswer.TheVariants as answers
 use Rattle.pgs_shard.specs.declared.list_error.ListError.{ListError}
 use Rattle.pgs_shard.specs.declared.list_error.ListError.TheVariants.{ListFault, Memory}
 
@@ -30,10 +31,10 @@ abbrev pub with_item : Option Item → List ObjectId → List ObjectId
 with_item None before = before
 with_item (Some item) before = with_named item.family item.effects before
 
--- an item that is applied names the positions of its effects, and damage names one
+-- an item that is applied names the positions of its effects, and damage that is done names one
 abbrev pub touched_after : Event → List Item → List ObjectId → List ObjectId
 touched_after (Applied number) items before = with_item (item_of number items) before
-touched_after (Damaged family snap damage) items before = placed (at_snap family snap) before
+touched_after (Damaged family snap damage answers.Damaged) items before = placed (at_snap family snap) before
 touched_after _ items before = before
 
 -- the positions that were named, each once and in order

@@ -5,6 +5,7 @@ use Rattle.pgs_medium.specs.declared.item.Item.{Item}
 use Rattle.pgs_shard.specs.Feeds.{fed, item_of}
 use Rattle.pgs_shard.specs.declared.event.Event.{Event}
 use Rattle.pgs_shard.specs.declared.event.Event.TheVariants.{Applied, DeviceFault, ListFailed, Damaged}
+use Rattle.pgs_shard.specs.declared.damage_answer.DamageAnswer.TheVariants as answers
 
 -- an item that is applied is the last one applied
 abbrev pub applied_after : Event → ℕ → ℕ
@@ -21,13 +22,13 @@ abbrev pub after_item : Option Item → Stored → Stored
 after_item None stored = stored
 after_item (Some item) stored = affected item.family item.effects stored
 
--- items that are applied, and damage, change the store
+-- items that are applied, and damage that is done, change the store
 abbrev pub stored_after : Event → List Item → Stored → Stored
 stored_after (Applied number) items before = after_item (item_of number items) before
-stored_after (Damaged family snap damage) items before = harmed family snap damage before
+stored_after (Damaged family snap damage answers.Damaged) items before = harmed family snap damage before
 stored_after _ items before = before
 
--- what is stored: from nothing, the effects of each item that was applied, and each damage, in turn
+-- what is stored: from nothing, the effects of each item that was applied, and each damage that was done, in turn
 abbrev pub stored_by : List Event → Stored
 stored_by [] = nothing_stored
 stored_by (event ∷ past) = stored_after event (fed past) (stored_by past)

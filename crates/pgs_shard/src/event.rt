@@ -1,3 +1,4 @@
+use crate::damage_answer::DamageAnswer;
 use pgs_copy::Damage;
 use pgs_medium::Item;
 use pgs_name::Family;
@@ -23,10 +24,11 @@ pub enum Event {
     ListFailed {
         count: u64,
     },
-    /// A copy was damaged.
+    /// A copy was to be damaged.
     Damaged {
         family: Family,
         snap: u64,
         damage: Damage,
+        answer: DamageAnswer,
     },
 }

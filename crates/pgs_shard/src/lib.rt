@@ -3,8 +3,12 @@
 
 mod applied;
 mod apply_error;
+mod damage_answer;
+mod damaging;
 mod event;
+mod holding;
 mod items_beyond;
+mod limits;
 mod list_error;
 mod listing;
 mod shard;
@@ -12,6 +16,8 @@ mod writing;
 
 pub use applied::Applied;
 pub use apply_error::ApplyError;
+pub use damage_answer::DamageAnswer;
 pub use event::Event;
+pub use limits::SHARD_MAX;
 pub use list_error::ListError;
 pub use shard::Shard;

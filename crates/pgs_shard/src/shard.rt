@@ -1,11 +1,11 @@
 ghost use Rattle.std.specs.Prelude.{◌≡◌, ◌≤◌, ℕ, [], length, reverse, OnOk, OnErr, IfOk, IfSome, false};
 ghost use Rattle.pgs_store.specs.Stores.{nothing_stored, is_stored};
 ghost use Rattle.pgs_medium.specs.Calls.{is_named, one_more};
-ghost use Rattle.pgs_medium.specs.Device.{IsDamaged};
 ghost use Rattle.pgs_medium.specs.declared.call_kind.CallKind.TheVariants.{Write, List as Listing};
 ghost use Rattle.pgs_shard.specs.Feeds.{AreNext, AreNumbered, fed};
 ghost use Rattle.pgs_shard.specs.Stores.{applied, stored_by};
-ghost use Rattle.pgs_shard.specs.Answers.{IsApplied, IsDeviceFault, past_after_apply, past_after_damage};
+ghost use Rattle.pgs_shard.specs.Answers.{IsApplied, IsDeviceFault, IsDamaged, past_after_apply, past_after_damage};
+ghost use Rattle.pgs_shard.specs.Held.{damage_answer};
 ghost use Rattle.pgs_shard.specs.Legal.{IsLegal};
 ghost use Rattle.pgs_shard.specs.Laws.{IsLawful};
 ghost use Rattle.pgs_chunk.specs.Listings.{IsListOf, listing};
@@ -15,6 +15,8 @@ ghost use Rattle.pgs_shard.specs.declared.event.Event.TheVariants.{Fed};
 
 use crate::applied::Applied;
 use crate::apply_error::ApplyError;
+use crate::damage_answer::DamageAnswer;
+use crate::damaging::damage_answer;
 use crate::event::Event;
 use crate::items_beyond::copied_beyond;
 use crate::list_error::ListError;
@@ -193,21 +195,71 @@ impl<M: Medium> Shard<M> {
         }
     }
 
-    /// Does damage to the copy at a snap of a family, if there is one, and keeps it either way.
-    pub fn damage(&mut self, family: Family, snap: u64, damage: Damage) -> Result<(), AllocError>
+    /// Does damage to the copy at a snap of a family, unless the copies would then hold more than before and more than they may. It
+    /// is kept either way.
+    pub fn damage(
+        &mut self,
+        family: Family,
+        snap: u64,
+        damage: Damage,
+    ) -> Result<DamageAnswer, AllocError>
+        ensures answer { IfOk result (λ a. a ≡ damage_answer self.old.past family snap damage) }
         ensures device { IsDamaged family snap damage (M.device self.old.medium) result (M.device self.new.medium) }
         ensures kept { self.new.past ≡ past_after_damage family snap damage result self.old.past }
         ensures osd { self.new.osd ≡ self.old.osd }
         ensures failing { (M.device self.new.medium).failing ≡ (M.device self.old.medium).failing }
         ensures legal { IsLegal self.old.past → IsLegal self.new.past }
     {
-        self.events.reserve(1)?;
-        self.medium.damage(&family, snap, &damage)?;
-        self.events.push_reserved(Event::Damaged {
+        if self.events.reserve(1).is_err() {
+            drop(damage);
+            return Err(AllocError);
+        }
+        match self.answer_to(&family, snap, &damage) {
+            Ok(DamageAnswer::Damaged) => {
+                if self.medium.damage(&family, snap, &damage).is_err() {
+                    drop(damage);
+                    return Err(AllocError);
+                }
+                self.events.push_reserved(Event::Damaged {
+                    family,
+                    snap,
+                    damage,
+                    answer: DamageAnswer::Damaged,
+                });
+                Ok(DamageAnswer::Damaged)
+            }
+            Ok(answer) => {
+                self.events.push_reserved(Event::Damaged {
+                    family,
+                    snap,
+                    damage,
+                    answer,
+                });
+                Ok(answer)
+            }
+            Err(refused) => {
+                drop(damage);
+                Err(refused)
+            }
+        }
+    }
+
+    // What damage is answered.
+    fn answer_to(
+        &self,
+        family: &Family,
+        snap: u64,
+        damage: &Damage,
+    ) -> Result<DamageAnswer, AllocError>
+        ensures { IfOk result (λ a. a ≡ damage_answer self.now.past family.now snap damage.now) }
+    {
+        damage_answer(
+            self.alloc,
+            &self.medium,
+            self.events.as_slice(),
             family,
             snap,
             damage,
-        });
-        Ok(())
+        )
     }
 }

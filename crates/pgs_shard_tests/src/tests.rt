@@ -7,7 +7,7 @@ use pgs_bytes::Bytes;
 use pgs_copy::{Damage, Effect};
 use pgs_medium::{CallKind, FailingCall, Item, Medium, RamMedium};
 use pgs_name::{Family, HEAD};
-use pgs_shard::{Applied, ApplyError, Event, Shard};
+use pgs_shard::{Applied, ApplyError, DamageAnswer, Event, Shard};
 use sqlite_items::Items;
 use std::alloc::{AllocError, Global};
 use std::test::Fail;
@@ -96,7 +96,8 @@ fn items_are_applied_and_a_copy_is_damaged(rt: HostRuntime) -> Result<(), Fail> 
     }
     let applied = shard.apply_next();
     assert!(rt; matches!(&applied, Ok(Applied::NotYet { applied: 2 })));
-    shard.damage(family.clone()?, HEAD, Damage::Flip { at: 8, xor: 1 })?;
+    let answer = shard.damage(family.clone()?, HEAD, Damage::Flip { at: 8, xor: 1 })?;
+    assert!(rt; answer == DamageAnswer::Damaged);
     let bytes = head(&shard, &family).ok_or("a head")?;
     assert_eq!(rt; bytes.as_slice(), b"123456788".as_slice());
     assert_eq!(rt; (shard.osd(), shard.fed_count()), (3, 2));

@@ -3,8 +3,11 @@ use Rattle.std.proofs.Common.{◌≡◌, ℕ, ◌==◌, ◌||◌, Bool, true, fa
 use Rattle.std.specs.List.{list_any}
 use Rattle.std.proofs.lemmas.Bool.Decides.{eqb_tells}
 use Rattle.pgs_bytes.proofs.Facts.{true_false}
+use Rattle.pgs_name.specs.Families.{Family}
+use Rattle.pgs_copy.specs.declared.damage.Damage.{Damage}
+use Rattle.pgs_shard.specs.Held.{damage_answer}
 use Rattle.pgs_shard.specs.declared.event.Event.{Event}
-use Rattle.pgs_shards.specs.Members.{Member, beginning, past_in, with_event}
+use Rattle.pgs_shards.specs.Members.{Member, beginning, past_in, with_event, damage_in}
 
 -- an OSD has a history
 abbrev pub has : List Member → ℕ → Bool
@@ -19,6 +22,19 @@ past_in_here (member ∷ members) osd event there =
       | true ↦ λ same among. ap (λ v. cond v (event ∷ member.past) (past_in members osd)) same
       | false ↦ λ other among. ap (λ v. cond v member.past (past_in (with_event osd event members) osd)) other ∙ past_in_here members osd event among
     ]) refl there
+
+-- damage to a copy of an OSD is answered by its history
+pub damage_here : (members : List Member) (osd : ℕ) (family : Family) (snap : ℕ) (damage : Damage) → has members osd ≡ true
+    → damage_in members osd family snap damage ≡ damage_answer (past_in members osd) family snap damage
+damage_here [] osd family snap damage there = absurd (true_false (sym there))
+damage_here (member ∷ members) osd family snap damage there =
+    let P : Bool → Type 0 = λ v. (v || has members osd) ≡ true
+    → cond v (damage_answer member.past family snap damage) (damage_in members osd family snap damage)
+    ≡ damage_answer (cond v member.past (past_in members osd)) family snap damage in
+    (elim (member.osd == osd) as P [
+      | true ↦ λ among. refl
+      | false ↦ λ among. damage_here members osd family snap damage among
+    ]) there
 
 pub past_in_other : (members : List Member) (osd q : ℕ) (event : Event) → (osd == q) ≡ false → past_in (with_event osd event members) q ≡ past_in members q
 past_in_other [] osd q event apart = refl

@@ -21,8 +21,14 @@ use Rattle.pgs_shard.specs.Stores.{applied}
 use Rattle.pgs_shard.specs.declared.applied.Applied.{Applied as ApplyAnswer}
 use Rattle.pgs_shard.specs.declared.applied.Applied.TheVariants.{NotYet}
 use Rattle.pgs_shard.specs.declared.event.Event.TheVariants.{Applied}
+use Rattle.pgs_shard.specs.declared.event.Event.TheVariants as events
+use Rattle.pgs_copy.specs.declared.damage.Damage.{Damage}
+use Rattle.pgs_name.specs.Families.{Family}
+use Rattle.pgs_shard.specs.Held.{damage_answer}
+use Rattle.pgs_shard.specs.declared.damage_answer.DamageAnswer.{DamageAnswer}
+use Rattle.pgs_shard.specs.declared.damage_answer.DamageAnswer.TheVariants.{Damaged}
 use Rattle.std.proofs.lemmas.List.{drop_more}
-use Rattle.pgs_shards.specs.Members.{Member, beginning, past_in, with_event, with_past, waits, with_applied, apply_answer}
+use Rattle.pgs_shards.specs.Members.{Member, beginning, past_in, with_event, with_past, waits, with_applied, apply_answer, damage_in, with_damage}
 use Rattle.pgs_shards.specs.Kept.{seen, IsQuiet, AreQuiet, is_of}
 
 abbrev Shard : Type 0
@@ -167,6 +173,34 @@ kept_nowhere osd event shards e = event_nowhere osd event shards (not_found (pos
 pub past_at : (osd : ℕ) (shards : List Shard) (at : ℕ) (d : Shard) → position (is_of osd) shards ≡ Some at → past_in (map seen shards) osd ≡ (get_or shards at d).past
 past_at osd shards at d e = let is = is_at osd shards at e in past_is osd shards at d is.0 is.1
 
+damage_is : (osd : ℕ) (family : Family) (snap : ℕ) (damage : Damage) (shards : List Shard) (at : ℕ) (d : Shard) → position_or_len (is_of osd) shards ≡ at → at < length shards
+    → damage_in (map seen shards) osd family snap damage ≡ damage_answer (get_or shards at d).past family snap damage
+damage_is osd family snap damage [] at d p h = absurd (omega (arith, h))
+damage_is osd family snap damage (shard ∷ shards) zero d p h =
+    ap (λ v. cond v (damage_answer shard.past family snap damage) (damage_in (map seen shards) osd family snap damage))
+    (not_false (shard.osd == osd) (none_on (not (shard.osd == osd)) (position_or_len (is_of osd) shards) p))
+damage_is osd family snap damage (shard ∷ shards) (suc at) d p h =
+    let more = one_on (not (shard.osd == osd)) (position_or_len (is_of osd) shards) at p in
+    ap (λ v. cond v (damage_answer shard.past family snap damage) (damage_in (map seen shards) osd family snap damage)) (not_true (shard.osd == osd) more.0)
+    ∙ damage_is osd family snap damage shards at d more.1 (let size : suc at < suc (length shards) = h in omega (arith, size))
+
+no_damage : (osd : ℕ) (family : Family) (snap : ℕ) (damage : Damage) (shards : List Shard) → nat_lt (position_or_len (is_of osd) shards) (length shards) ≡ false
+    → damage_in (map seen shards) osd family snap damage ≡ Damaged
+no_damage osd family snap damage [] e = refl
+no_damage osd family snap damage (shard ∷ shards) e =
+    let P : Bool → Type 0 = λ v. nat_lt (cond (not v) (1 + position_or_len (is_of osd) shards) 0) (suc (length shards)) ≡ false
+    → cond v (damage_answer shard.past family snap damage) (damage_in (map seen shards) osd family snap damage) ≡ Damaged in
+    (elim (shard.osd == osd) as P [
+      | true ↦ λ here. absurd (impossible (length shards) here)
+      | false ↦ λ rest. no_damage osd family snap damage shards (less (position_or_len (is_of osd) shards) (length shards) rest)
+    ]) e
+  where
+    impossible : (n : ℕ) → nat_lt 0 (suc n) ≡ false → ⊥
+    impossible n h = grind (arith, nat_tests, h)
+
+    less : (a b : ℕ) → nat_lt (1 + a) (suc b) ≡ false → nat_lt a b ≡ false
+    less a b h = grind (arith, nat_tests, h)
+
 -- ---- what a shard's step leaves of all
 
 pub event_set : (osd : ℕ) (event : Event) (shards : List Shard) (at : ℕ) (new d : Shard) → position (is_of osd) shards ≡ Some at
@@ -227,8 +261,13 @@ module _ (osd : ℕ) (shards : List Shard) (now : List Member) (view : map seen 
     pub listed_none : (limit : ℕ) (start : Bound) → [] ≡ listing limit start (positions (past_in now osd))
     listed_none limit start = sym (ap (λ members. listing limit start (positions (past_in members osd))) (sym view) ∙ ap (λ past. listing limit start (positions past)) (past_nowhere osd shards none))
 
-    pub entries_none : (range : FamilyRange) → [] ≡ entries_in range (past_in now osd)
-    entries_none range = sym (ap (λ members. entries_in range (past_in members osd)) (sym view) ∙ ap (entries_in range) (past_nowhere osd shards none))
+    pub entries_none : (deep : Bool) (range : FamilyRange) → [] ≡ entries_in deep range (past_in now osd)
+    entries_none deep range = sym (ap (λ members. entries_in deep range (past_in members osd)) (sym view) ∙ ap (entries_in deep range) (past_nowhere osd shards none))
+
+    pub damage_none : (family : Family) (snap : ℕ) (damage : Damage) → Damaged ≡ damage_in now osd family snap damage
+    damage_none family snap damage =
+        sym (ap (λ members. damage_in members osd family snap damage) (sym view)
+        ∙ no_damage osd family snap damage shards (not_found (position_or_len (is_of osd) shards) (length shards) none))
 
     pub event_none : (event : Event) → now ≡ with_event osd event now
     event_none event = sym view ∙ sym (kept_nowhere osd event shards none) ∙ ap (with_event osd event) view
@@ -243,8 +282,19 @@ module _ (osd : ℕ) (shards : List Shard) (now : List Member) (view : map seen 
     pub listed_some : (limit : ℕ) (start : Bound) (ids : List ObjectId) → ids ≡ listing limit start (positions shard.past) → ids ≡ listing limit start (positions (past_in now osd))
     listed_some limit start ids e = e ∙ ap (λ past. listing limit start (positions past)) (sym past_now)
 
-    pub entries_some : (range : FamilyRange) (entries : List Entry) → entries ≡ entries_in range shard.past → entries ≡ entries_in range (past_in now osd)
-    entries_some range entries e = e ∙ ap (entries_in range) (sym past_now)
+    pub entries_some : (deep : Bool) (range : FamilyRange) (entries : List Entry) → entries ≡ entries_in deep range shard.past
+        → entries ≡ entries_in deep range (past_in now osd)
+    entries_some deep range entries e = e ∙ ap (entries_in deep range) (sym past_now)
+
+    damage_now : (family : Family) (snap : ℕ) (damage : Damage) → damage_in now osd family snap damage ≡ damage_answer shard.past family snap damage
+    damage_now family snap damage =
+        let at_is = is_at osd shards at there in
+        ap (λ members. damage_in members osd family snap damage) (sym view) ∙ damage_is osd family snap damage shards at shard at_is.0 at_is.1
+        ∙ sym (ap (λ (s : Shard). damage_answer s.past family snap damage) is)
+
+    pub damage_some : (family : Family) (snap : ℕ) (damage : Damage) (answer : DamageAnswer) → answer ≡ damage_answer shard.past family snap damage
+        → answer ≡ damage_in now osd family snap damage
+    damage_some family snap damage answer e = e ∙ sym (damage_now family snap damage)
 
     pub from_some : (from : ℕ) → from ≤ length (fed (past_in now osd)) → from ≤ length (fed shard.past)
     from_some from within = subst (λ past. from ≤ length (fed past)) past_now within
@@ -256,13 +306,19 @@ module _ (osd : ℕ) (shards : List Shard) (now : List Member) (view : map seen 
       pub event_some : (event : Event) → new.past ≡ event ∷ shard.past → map seen (set shards at new) ≡ with_event osd event now
       event_some event past = event_set osd event shards at new shard there (same ∙ ap (λ s. s.osd) is) (past ∙ ap (λ s. event ∷ s.past) is) ∙ ap (with_event osd event) view
 
+      pub harmed_some : (family : Family) (snap : ℕ) (damage : Damage) → new.past ≡ events.Damaged family snap damage (damage_answer shard.past family snap damage) ∷ shard.past
+          → map seen (set shards at new) ≡ with_damage osd family snap damage now
+      harmed_some family snap damage past =
+          event_some (events.Damaged family snap damage (damage_in now osd family snap damage))
+          (past ∙ ap (λ a. events.Damaged family snap damage a ∷ shard.past) (sym (damage_now family snap damage)))
+
       pub applied_some : new.past ≡ cond (waits shard.past) (Applied (applied shard.past + 1) ∷ shard.past) shard.past → map seen (set shards at new) ≡ with_applied osd now
       applied_some past =
           applied_set osd shards at new shard there (same ∙ ap (λ s. s.osd) is)
           (past ∙ ap (λ s. cond (waits s.past) (Applied (applied s.past + 1) ∷ s.past) s.past) is)
           ∙ ap (with_applied osd) view
 
-pub ruleset places = (answer_none, applied_none, event_none, listed_none, entries_none, answer_some, listed_some, entries_some, from_some, same_some, event_some, applied_some)
+pub ruleset places = (answer_none, applied_none, event_none, listed_none, entries_none, damage_none, answer_some, listed_some, entries_some, damage_some, harmed_some, from_some, same_some, event_some, applied_some)
 
 -- ---- a device that is to fail no call
 

@@ -1,5 +1,5 @@
 -- What a member stores of a range.
-use Rattle.std.specs.Prelude.{List, filter, Option, option_map}
+use Rattle.std.specs.Prelude.{Bool, List, filter, Option, option_map}
 use Rattle.std.specs.List.{filter_map}
 use Rattle.pgs_name.specs.declared.object_id.ObjectId.{ObjectId}
 use Rattle.pgs_range.specs.Ranges.{in_range}
@@ -11,14 +11,14 @@ use Rattle.pgs_shard.specs.Listed.{positions}
 use Rattle.pgs_shard.specs.Stores.{stored_by}
 use Rattle.pgs_shard.specs.declared.event.Event.{Event}
 
--- the entry of the copy that is stored at a position, if there is one
-abbrev pub entry_in : Stored → ObjectId → Option Entry
-entry_in stored id = option_map (λ copy. entry_of id copy) (stored id.family id.snap)
+-- the entry of the copy that is stored at a position, if there is one, with both digests where its data and omap are read
+abbrev pub entry_in : Bool → Stored → ObjectId → Option Entry
+entry_in deep stored id = option_map (λ copy. entry_of deep id copy) (stored id.family id.snap)
 
 -- the positions that are stored, of the families of a range
 abbrev pub positions_in : FamilyRange → List Event → List ObjectId
 positions_in range past = filter (λ id. in_range range id.family) (positions past)
 
 -- the entries of the copies there
-abbrev pub entries_in : FamilyRange → List Event → List Entry
-entries_in range past = filter_map (entry_in (stored_by past)) (positions_in range past)
+abbrev pub entries_in : Bool → FamilyRange → List Event → List Entry
+entries_in deep range past = filter_map (entry_in deep (stored_by past)) (positions_in range past)

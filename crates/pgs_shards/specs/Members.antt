@@ -1,6 +1,11 @@
 -- The shards of a group's members are seen as the list of their OSDs, each with its events, the newest first.
 use Rattle.std.specs.Prelude.{ℕ, Bool, ◌+◌, ◌==◌, nat_lt, List, [], ◌∷◌, length, map, if◌then◌else◌}
+use Rattle.pgs_name.specs.Families.{Family}
+use Rattle.pgs_copy.specs.declared.damage.Damage.{Damage}
 use Rattle.pgs_shard.specs.Feeds.{fed}
+use Rattle.pgs_shard.specs.Held.{damage_answer}
+use Rattle.pgs_shard.specs.declared.damage_answer.DamageAnswer.{DamageAnswer}
+use Rattle.pgs_shard.specs.declared.damage_answer.DamageAnswer.TheVariants.{Damaged}
 use Rattle.pgs_shard.specs.Stores.{applied}
 use Rattle.pgs_shard.specs.declared.applied.Applied.{Applied}
 use Rattle.pgs_shard.specs.declared.applied.Applied.TheVariants as answers
@@ -40,6 +45,18 @@ with_applied osd members =
 -- what applying answers: the number of the item that is applied, or that none waits
 abbrev pub apply_answer : List Event → Applied
 apply_answer past = if waits past then answers.Applied (applied past + 1) else answers.NotYet (applied past)
+
+-- ---- damage
+
+-- what damage to a copy of an OSD is answered: it is done where the OSD is no member, and nothing is kept of it
+abbrev pub damage_in : List Member → ℕ → Family → ℕ → Damage → DamageAnswer
+damage_in [] osd family snap damage = Damaged
+damage_in (member ∷ members) osd family snap damage =
+    if member.osd == osd then damage_answer member.past family snap damage else damage_in members osd family snap damage
+
+-- the members after it, where the OSD keeps it with its answer
+abbrev pub with_damage : ℕ → Family → ℕ → Damage → List Member → List Member
+with_damage osd family snap damage members = with_event osd (events.Damaged family snap damage (damage_in members osd family snap damage)) members
 
 -- the members with a history in place of an OSD's
 abbrev pub with_past : ℕ → List Event → List Member → List Member

@@ -3,6 +3,7 @@ ghost use Rattle.std.specs.Prelude.{◌≡◌, ◌≤◌, ◌+◌, [], ◌∷◌
 ghost use Rattle.pgs_chunk.specs.Listings.{listing};
 ghost use Rattle.pgs_shard.specs.Listed.{positions};
 ghost use Rattle.pgs_shard.specs.Feeds.{AreNext, fed};
+ghost use Rattle.pgs_shard.specs.Held.{damage_answer};
 ghost use Rattle.pgs_shard.specs.Stores.{applied};
 ghost use Rattle.pgs_shard.specs.declared.event.Event.TheVariants as events;
 ghost use Rattle.pgs_shards.specs.Members.{waits, apply_answer};
@@ -12,7 +13,7 @@ use pgs_copy::Damage;
 use pgs_medium::{Item, RamMedium};
 use pgs_name::{Family, ObjectId};
 use pgs_range::Bound;
-use pgs_shard::{Applied, ApplyError, ListError, Shard};
+use pgs_shard::{Applied, ApplyError, DamageAnswer, ListError, Shard};
 use sqlite_items::Items;
 use std::alloc::{AllocError, Global};
 
@@ -75,16 +76,17 @@ pub fn list(
     }
 }
 
-/// Does damage to the copy at a snap of a family.
+/// Does damage to the copy at a snap of a family, unless the copies would then hold too much.
 pub fn damage(
     shard: &mut Shard<RamMedium>,
     family: Family,
     snap: u64,
     damage: Damage,
-) -> Result<(), AllocError>
-    requires { IsQuiet shard.old }
+) -> Result<DamageAnswer, AllocError>
+    requires quiet { IsQuiet shard.old }
+    ensures answer { IfOk result (λ answer. answer ≡ damage_answer shard.old.past family snap damage) }
     ensures osd { shard.new.osd ≡ shard.old.osd }
-    ensures kept { OnOk result (shard.new.past ≡ events.Damaged family snap damage ∷ shard.old.past) }
+    ensures kept { OnOk result (shard.new.past ≡ events.Damaged family snap damage (damage_answer shard.old.past family snap damage) ∷ shard.old.past) }
     ensures err { OnErr result (shard.new.past ≡ shard.old.past) }
     ensures quiet { IsQuiet shard.new }
 {

@@ -6,7 +6,7 @@ ghost use Rattle.pgs_shards.specs.Entries.{entries_in};
 ghost use Rattle.pgs_shard.specs.Feeds.{AreNext, fed};
 ghost use Rattle.pgs_shard.specs.Stores.{applied};
 ghost use Rattle.pgs_shard.specs.declared.event.Event.TheVariants as events;
-ghost use Rattle.pgs_shards.specs.Members.{beginning, past_in, with_event, with_applied, apply_answer};
+ghost use Rattle.pgs_shards.specs.Members.{beginning, past_in, with_event, with_applied, apply_answer, damage_in, with_damage};
 ghost use Rattle.pgs_shards.specs.Kept.{is_of, seen};
 
 use crate::entries::entries_of;
@@ -17,7 +17,7 @@ use pgs_map::Entry;
 use pgs_medium::{Item, RamMedium};
 use pgs_name::{Family, ObjectId};
 use pgs_range::{Bound, FamilyRange};
-use pgs_shard::{Applied, Shard};
+use pgs_shard::{Applied, DamageAnswer, Shard};
 use sqlite_items::Items;
 use std::alloc::{AllocError, Global};
 use std::marker::Model;
@@ -133,7 +133,8 @@ impl Shards {
         }
     }
 
-    /// Does damage to the copy of an OSD at a snap of a family, if there is one.
+    /// Does damage to the copy of an OSD at a snap of a family, unless its copies would then hold too much. Of an OSD that is no member
+    /// nothing is kept.
     #[tactic(auto, using(crate::proofs::Places::places, crate::proofs::Places::quiet_set))]
     pub fn damage(
         &mut self,
@@ -141,17 +142,21 @@ impl Shards {
         family: Family,
         snap: u64,
         damage: Damage,
-    ) -> Result<(), AllocError>
-        ensures kept { OnOk result (self.new ≡ with_event osd (events.Damaged family snap damage) self.old) }
+    ) -> Result<DamageAnswer, AllocError>
+        ensures answer { IfOk result (λ a. a ≡ damage_in self.old osd family snap damage) }
+        ensures kept { OnOk result (self.new ≡ with_damage osd family snap damage self.old) }
         ensures err { OnErr result (self.new ≡ self.old) }
     {
         match place(self.items.as_slice(), osd) {
             Some(at) => {
                 let shard = &mut self.items[at];
-                quiet::damage(shard, family, snap, damage)?;
-                Ok(())
+                let answer = quiet::damage(shard, family, snap, damage)?;
+                Ok(answer)
             }
-            None => Ok(()),
+            None => {
+                drop(damage);
+                Ok(DamageAnswer::Damaged)
+            }
         }
     }
 
@@ -177,7 +182,8 @@ impl Shards {
         }
     }
 
-    /// What an OSD stores of a range: an entry for each copy, in the order of positions. It is no call of its device.
+    /// What an OSD stores of a range: an entry for each copy, in the order of positions, with digests where data and omaps are read. It is
+    /// no call of its device.
     #[tactic(auto, using(crate::proofs::Places::places, crate::proofs::Made::in_ranges))]
     pub fn entries(
         &self,
@@ -185,14 +191,15 @@ impl Shards {
         tables: &Tables<1>,
         osd: u32,
         range: &FamilyRange,
+        deep: bool,
     ) -> Result<Items<Entry>, AllocError>
-        ensures told { IfOk result (λ entries. entries ≡ entries_in range.now (past_in self.now osd)) }
+        ensures told { IfOk result (λ entries. entries ≡ entries_in deep range.now (past_in self.now osd)) }
 
         // They ascend, and lie in the range.
         ensures in_range { IfOk result (λ entries. AreInRange range.now entries) }
     {
         match place(self.items.as_slice(), osd) {
-            Some(at) => entries_of(alloc, tables, &self.items[at], range),
+            Some(at) => entries_of(alloc, tables, &self.items[at], range, deep),
             None => Ok(Items::new(alloc)),
         }
     }

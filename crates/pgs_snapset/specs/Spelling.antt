@@ -1,5 +1,6 @@
 -- Snapsets as bytes.
-use Rattle.std.specs.Prelude.{ℕ, Bool, true, List, Result}
+use Rattle.std.specs.Prelude.{ℕ, Bool, true, List, Option, Some, None, Result}
+use Rattle.std.specs.Result.{result_ok}
 use Rattle.pgs_codec.specs.Fields.{Field, u64, fixed, followed, seen, counted, read_whole}
 use Rattle.pgs_snapset.specs.declared.clone_facts.CloneFacts.{CloneFacts}
 use Rattle.pgs_snapset.specs.declared.snapset.SnapSet.{SnapSet}
@@ -30,3 +31,8 @@ snapset_spelling = snapset.spell
 -- the snapset that a whole text spells, or the place at which the text is refused
 unfoldable pub read_snapset : List ℕ → Result SnapSet ℕ
 read_snapset = read_whole snapset
+
+-- the snapset in an attribute, if it is there and reads
+abbrev pub snapset_in : Option (List ℕ) → Option SnapSet
+snapset_in None = None
+snapset_in (Some text) = result_ok (read_snapset text)

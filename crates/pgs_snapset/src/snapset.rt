@@ -1,8 +1,9 @@
 ghost use Rattle.std.specs.Prelude.{◌≡◌, ◌↔◌, IsTrue, IfOk, IsNone, Ok, nat_le};
 ghost use Rattle.std.specs.List.{list_all};
+ghost use Rattle.std.specs.Option.{option_copied};
 ghost use Rattle.pgs_codec.specs.Answers.{Decodes};
 ghost use Rattle.pgs_snapset.specs.declared.snapset.SnapSet.{SnapSet};
-ghost use Rattle.pgs_snapset.specs.Spelling.{snapset_spelling, snapset_fits, read_snapset};
+ghost use Rattle.pgs_snapset.specs.Spelling.{snapset_spelling, snapset_fits, read_snapset, snapset_in};
 ghost use Rattle.pgs_snapset.specs.Cloning.{clone_made};
 ghost use Rattle.pgs_snapset.specs.WellFormed.{is_well_formed};
 
@@ -50,6 +51,20 @@ impl SnapSet {
         ensures only { (s : SnapSet) → IsTrue (snapset_fits s) → text.now ≡ snapset_spelling s → Decodes result (Ok s) }
     {
         decode_all(alloc, text)
+    }
+
+    /// The snapset in an attribute, if it is there and spells one.
+    pub fn read(alloc: Global, text: Option<&Bytes>) -> Result<Option<SnapSet>, AllocError>
+        ensures { IfOk result (λ set. set ≡ snapset_in (option_copied text.entry)) }
+    {
+        let Some(text) = text else {
+            return Ok(None);
+        };
+        match decode_all(alloc, text.as_slice()) {
+            Ok(set) => Ok(Some(set)),
+            Err(DecodeError::Corrupt { .. }) => Ok(None),
+            Err(DecodeError::Memory) => Err(AllocError),
+        }
     }
 
     /// The clone that a write makes of a head of a size. The write's context is its seq and its snaps, the newest first.

@@ -91,7 +91,7 @@ impl Store {
         self.put(family, copies)
     }
 
-    /// Does damage to the copy at a snap of a family, if there is one.
+    /// Does damage to the copy at a snap of a family, or nothing where memory runs out.
     pub fn damage(
         &mut self,
         alloc: Global,
@@ -104,7 +104,10 @@ impl Store {
     {
         if let Some(copies) = self.families.get_mut(family) {
             apply_damage(alloc, copies, snap, damage)?;
+            return Ok(());
         }
-        Ok(())
+        let mut copies = BTreeMap::new(alloc);
+        apply_damage(alloc, &mut copies, snap, damage)?;
+        self.put(family, copies)
     }
 }

@@ -30,7 +30,7 @@ use Rattle.pgs_lines.specs.declared.done.Done.TheVariants as dones
 use Rattle.pgs_shard.specs.Stores.{applied}
 use Rattle.pgs_shard.specs.declared.event.Event.{Event as ShardEvent}
 use Rattle.pgs_shard.specs.declared.event.Event.TheVariants.{Applied, Damaged}
-use Rattle.pgs_shards.specs.Members.{Member, past_in, with_event, waits}
+use Rattle.pgs_shards.specs.Members.{Member, past_in, with_event, waits, damage_in, with_damage}
 use Rattle.pgs_world.specs.State.{WorldState}
 use Rattle.pgs_world.specs.Basics.{id_of, write_of, given, applied_by, after_collecting, after_write, after_pulling, after_telling, after_applying}
 use Rattle.pgs_world.specs.Counts.{AreInStep}
@@ -101,7 +101,7 @@ still a b (dones.Collect group client serial (Acked version)) legal grows h = ho
 still a b (dones.Pull group osd from to) legal grows h = tt
 still a b (dones.Apply group osd answer) legal grows h = tt
 still a b (dones.Tell group osd count) legal grows h = tt
-still a b (dones.Damage group osd object snap damage) legal grows h = tt
+still a b (dones.Damage group osd object snap damage answer) legal grows h = tt
 still a b (dones.Begin group kind answer) legal grows h = tt
 still a b (dones.Open group answer) legal grows h = tt
 still a b (dones.Close group answer) legal grows h = tt
@@ -230,12 +230,12 @@ grows_apply w group osd =
     ])
 
 pub grows_damage : (w : WorldState) (osd : ℕ) (done : List Done) (family : Family) (snap : ℕ) (damage : CopyDamage)
-    → Grows w (record w { members = with_event osd (Damaged family snap damage) w.members; done = done })
+    → Grows w (record w { members = with_damage osd family snap damage w.members; done = done })
 grows_damage w osd done family snap damage = record {
   same = refl;
   kept = λ id version e. e;
   tells = λ q. omega arith;
-  applies = λ q. applied_event w.members osd q (Damaged family snap damage) (λ past is. omega arith);
+  applies = λ q. applied_event w.members osd q (Damaged family snap damage (damage_in w.members osd family snap damage)) (λ past is. omega arith);
 }
 
 pub grows_done : (w : WorldState) (done : List Done) → Grows w (record w { done = done })

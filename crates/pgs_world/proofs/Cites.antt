@@ -1,10 +1,11 @@
 -- A map tells of a place of a history, whatever comes behind that place.
-use Rattle.std.proofs.Common.{◌≡◌, ℕ, suc, ◌+◌, ◌-◌, ◌≤◌, ◌==◌, nat_lt, true, false, cond, List, [], ◌∷◌, length, drop, refl, sym, ap, ◌∙◌, arith}
+use Rattle.std.proofs.Common.{◌≡◌, ℕ, suc, ◌+◌, ◌-◌, ◌≤◌, ◌==◌, nat_lt, Bool, true, false, cond, List, [], ◌∷◌, length, drop, refl, sym, ap, ◌∙◌, arith}
 use Rattle.pgs_request.specs.declared.req_id.ReqId.{ReqId}
 use Rattle.pgs_request.specs.declared.answers.CollectAnswer.{CollectAnswer}
 use Rattle.pgs_request.specs.declared.answers.CollectAnswer.TheVariants.{Unknown, NotYet, Acked}
 use Rattle.pgs_map.specs.declared.scrub_map.ScrubMap.{ScrubMap}
 use Rattle.pgs_history.specs.Members.{collected, pulled, told}
+use Rattle.pgs_history.specs.Scrubs.{last_kind, is_deep}
 use Rattle.pgs_history.specs.Answers.{last_number}
 use Rattle.pgs_history.specs.After.{after_collected}
 use Rattle.pgs_history.specs.declared.chunk.Chunk.{Chunk}
@@ -35,10 +36,10 @@ at_end : (past : List ShardEvent) → past ≡ at_place (length past) past
 at_end past = sym (ap (λ n. drop n past) (none_left (length past)))
 
 -- a map as it was when it was made
-pub now_cited : (w : WorldState) (osd : ℕ) (chunk : Chunk) → IsCited w.members (length (past_in w.members osd)) (map_of w osd chunk)
+pub now_cited : (w : WorldState) (osd : ℕ) (chunk : Chunk) → IsCited w.members (is_deep (last_kind w.past)) (length (past_in w.members osd)) (map_of w osd chunk)
 now_cited w osd chunk = record {
   within = omega arith;
-  entries = ap (entries_in chunk.range) (at_end (past_in w.members osd));
+  entries = ap (entries_in (is_deep (last_kind w.past)) chunk.range) (at_end (past_in w.members osd));
   applied_is = ap applied (at_end (past_in w.members osd));
 }
 
@@ -69,26 +70,27 @@ goes_on (member ∷ members) osd q event =
       ])
     ])
 
-is_cited_more : (old new : List Member) (place : ℕ) (map : ScrubMap) → GoesOn (past_in old map.osd) (past_in new map.osd) → IsCited old place map → IsCited new place map
-is_cited_more old new place map on h = record {
+is_cited_more : (old new : List Member) (deep : Bool) (place : ℕ) (map : ScrubMap) → GoesOn (past_in old map.osd) (past_in new map.osd) → IsCited old deep place map
+    → IsCited new deep place map
+is_cited_more old new deep place map on h = record {
   within = on.longer place h.within;
-  entries = h.entries ∙ ap (entries_in map.range) (sym (on.before place h.within));
+  entries = h.entries ∙ ap (entries_in deep map.range) (sym (on.before place h.within));
   applied_is = h.applied_is ∙ ap applied (sym (on.before place h.within));
 }
 
-cites_more : (old new : List Member) (event : Event) → ((osd : ℕ) → GoesOn (past_in old osd) (past_in new osd)) → Cites old event → Cites new event
-cites_more old new (Take place map answer) on h = is_cited_more old new place map (on map.osd) h
-cites_more old new (Submit write answer) on h = tt
-cites_more old new (Collect id version) on h = tt
-cites_more old new (Pull osd from to) on h = tt
-cites_more old new (Tell osd count) on h = tt
-cites_more old new (Begin kind answer) on h = tt
-cites_more old new (Open serial listed answer) on h = tt
-cites_more old new (Close chunk answer) on h = tt
+cites_more : (old new : List Member) (event : Event) (past : List Event) → ((osd : ℕ) → GoesOn (past_in old osd) (past_in new osd)) → Cites old event past → Cites new event past
+cites_more old new (Take place map answer) past on h = is_cited_more old new (is_deep (last_kind past)) place map (on map.osd) h
+cites_more old new (Submit write answer) past on h = tt
+cites_more old new (Collect id version) past on h = tt
+cites_more old new (Pull osd from to) past on h = tt
+cites_more old new (Tell osd count) past on h = tt
+cites_more old new (Begin kind answer) past on h = tt
+cites_more old new (Open serial listed answer) past on h = tt
+cites_more old new (Close chunk answer) past on h = tt
 
 all_cited : (old new : List Member) (past : List Event) → ((osd : ℕ) → GoesOn (past_in old osd) (past_in new osd)) → AreCited old past → AreCited new past
 all_cited old new [] on h = tt
-all_cited old new (event ∷ past) on h = (cites_more old new event on h.0, all_cited old new past on h.1)
+all_cited old new (event ∷ past) on h = (cites_more old new event past on h.0, all_cited old new past on h.1)
 
 pub cited_more : (members : List Member) (osd : ℕ) (event : ShardEvent) (past : List Event) → AreCited members past → AreCited (with_event osd event members) past
 cited_more members osd event past h = all_cited members (with_event osd event members) past (λ q. goes_on members osd q event) h

@@ -32,8 +32,10 @@ use Rattle.pgs_shard.specs.Feeds.{fed}
 use Rattle.pgs_shard.specs.Stores.{applied}
 use Rattle.pgs_shard.specs.declared.event.Event.{Event as ShardEvent}
 use Rattle.pgs_shard.specs.declared.event.Event.TheVariants.{Fed, Applied, Damaged}
-use Rattle.pgs_shards.specs.Members.{past_in, with_event, waits}
-use Rattle.pgs_shards.proofs.Members.{has, past_in_here, past_in_other, osds_kept, osds_beginning, past_beginning}
+use Rattle.pgs_shards.specs.Members.{past_in, with_event, waits, damage_in}
+use Rattle.pgs_shard.specs.Held.{damage_answer}
+use Rattle.pgs_shard.specs.declared.damage_answer.DamageAnswer.{DamageAnswer}
+use Rattle.pgs_shards.proofs.Members.{has, damage_here, past_in_here, past_in_other, osds_kept, osds_beginning, past_beginning}
 use Rattle.pgs_world.specs.State.{WorldState, opening}
 use Rattle.pgs_world.specs.Basics.{family_of, snap_of, damage_of, write_of, id_of, given, applied_by, after_write, after_collecting, after_pulling, after_telling, after_applying, after_damaging}
 use Rattle.pgs_world.specs.Counts.{is_member, IsInStep, AreInStep}
@@ -133,10 +135,10 @@ applied_one made past osd shard legal h waiting =
       pulled_log = h.pulled_log;
     }
 
-damaged_one : (past : List Event) (osd : ℕ) (shard : List ShardEvent) (family : Family) (snap : ℕ) (damage : CopyDamage) → IsInStep past osd shard
-    → IsInStep past osd (Damaged family snap damage ∷ shard)
-damaged_one past osd shard family snap damage h =
-    record { shard_legal = (tt, h.shard_legal); items = h.items; told_applied = h.told_applied; applied_pulled = h.applied_pulled; pulled_log = h.pulled_log }
+damaged_one : (past : List Event) (osd : ℕ) (shard : List ShardEvent) (family : Family) (snap : ℕ) (damage : CopyDamage) (answer : DamageAnswer)
+    → answer ≡ damage_answer shard family snap damage → IsInStep past osd shard → IsInStep past osd (Damaged family snap damage answer ∷ shard)
+damaged_one past osd shard family snap damage answer is h =
+    record { shard_legal = (is, h.shard_legal); items = h.items; told_applied = h.told_applied; applied_pulled = h.applied_pulled; pulled_log = h.pulled_log }
 
 -- ---- all members, after a step
 
@@ -233,8 +235,10 @@ in_apply w group osd h =
 pub in_damage : (w : WorldState) (group osd : ℕ) (object : Object) (snap : Snap) (damage : Damage) → AreInStep w
     → AreInStep (after_damaging w group osd object snap damage)
 in_damage w group osd object snap damage h =
-    one_event w (after_damaging w group osd object snap damage).done osd (Damaged (family_of object) (snap_of snap) (damage_of damage)) h
-    (λ member. damaged_one w.past osd (past_in w.members osd) (family_of object) (snap_of snap) (damage_of damage) (h.each osd member))
+    let answer : DamageAnswer = damage_in w.members osd (family_of object) (snap_of snap) (damage_of damage) in
+    one_event w (after_damaging w group osd object snap damage).done osd (Damaged (family_of object) (snap_of snap) (damage_of damage) answer) h
+    (λ member. damaged_one w.past osd (past_in w.members osd) (family_of object) (snap_of snap) (damage_of damage) answer
+    (damage_here w.members osd (family_of object) (snap_of snap) (damage_of damage) (has_member w osd h member)) (h.each osd member))
 
 -- what was done tells nothing of the members
 pub in_done : (w : WorldState) (done : List Done) → AreInStep w → AreInStep (record w { done = done })

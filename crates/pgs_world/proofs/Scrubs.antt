@@ -150,13 +150,13 @@ closed_quiet : (past : List Event) (chunk : ℕ) (answer : CloseAnswer) → AreQ
 closed_quiet past chunk closes.NoChunk = record { pulls = λ q. refl; tells = λ q. refl; items = refl; requests = refl }
 closed_quiet past chunk closes.ClosedBefore = record { pulls = λ q. refl; tells = λ q. refl; items = refl; requests = refl }
 closed_quiet past chunk (closes.NotYet osd) = record { pulls = λ q. refl; tells = λ q. refl; items = refl; requests = refl }
-closed_quiet past chunk (closes.Closed findings completes) = record { pulls = λ q. refl; tells = λ q. refl; items = refl; requests = refl }
+closed_quiet past chunk (closes.Closed report completes) = record { pulls = λ q. refl; tells = λ q. refl; items = refl; requests = refl }
 
 closed_cited : (members : List Member) (past : List Event) (chunk : ℕ) (answer : CloseAnswer) → AreCited members past → AreCited members (after_closed past chunk answer)
 closed_cited members past chunk closes.NoChunk h = (tt, h)
 closed_cited members past chunk closes.ClosedBefore h = (tt, h)
 closed_cited members past chunk (closes.NotYet osd) h = h
-closed_cited members past chunk (closes.Closed findings completes) h = (tt, h)
+closed_cited members past chunk (closes.Closed report completes) h = (tt, h)
 
 pub sound_close : (w : WorldState) (group : ℕ) → IsSound w → IsSound (after_closing w group)
 sound_close w group s =

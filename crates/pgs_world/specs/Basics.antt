@@ -14,7 +14,7 @@ use Rattle.pgs_lines.specs.declared.done.Done.TheVariants as dones
 use Rattle.pgs_name.specs.Families.{Family, family_named}
 use Rattle.pgs_name.specs.declared.object_id.TheConstants.{HEAD}
 use Rattle.pgs_copy.specs.declared.damage.Damage.{Damage}
-use Rattle.pgs_copy.specs.declared.damage.Damage.TheVariants.{Flip}
+use Rattle.pgs_copy.specs.declared.damage.Damage.TheVariants as damages
 use Rattle.pgs_request.specs.declared.op.Op.{Op}
 use Rattle.pgs_request.specs.declared.req_id.ReqId.{ReqId}
 use Rattle.pgs_request.specs.declared.snap_context.SnapContext.{SnapContext}
@@ -28,8 +28,13 @@ use Rattle.pgs_shard.specs.Stores.{applied}
 use Rattle.pgs_shard.specs.declared.applied.Applied.{Applied}
 use Rattle.pgs_shard.specs.declared.applied.Applied.TheVariants as answers
 use Rattle.pgs_shard.specs.declared.event.Event.{Event as ShardEvent}
-use Rattle.pgs_shard.specs.declared.event.Event.TheVariants.{Fed, Damaged}
-use Rattle.pgs_shards.specs.Members.{past_in, with_event, with_applied, apply_answer}
+use Rattle.pgs_shard.specs.declared.event.Event.TheVariants.{Fed}
+use Rattle.pgs_shard.specs.declared.damage_answer.DamageAnswer.{DamageAnswer}
+use Rattle.pgs_shard.specs.declared.damage_answer.DamageAnswer.TheVariants as damage_answers
+use Rattle.pgs_lines.specs.declared.damage_answer.DamageAnswer.{DamageAnswer as LineDamageAnswer}
+use Rattle.pgs_lines.specs.declared.damage_answer.DamageAnswer.TheVariants as line_answers
+use Rattle.pgs_request.specs.Payloads.{bytes_of}
+use Rattle.pgs_shards.specs.Members.{past_in, with_event, with_applied, apply_answer, damage_in, with_damage}
 use Rattle.pgs_world.specs.State.{WorldState}
 
 -- ---- what the words of a line name
@@ -43,7 +48,15 @@ snap_of Head = HEAD
 snap_of (Clone snap) = snap
 
 abbrev pub damage_of : LineDamage → Damage
-damage_of (line_damages.Flip at xor) = Flip at xor
+damage_of line_damages.Lose = damages.Lose
+damage_of (line_damages.Flip at xor) = damages.Flip at xor
+damage_of (line_damages.Cut size) = damages.Cut size
+damage_of (line_damages.SetData p) = damages.SetData (bytes_of p)
+damage_of (line_damages.SetAttr name p) = damages.SetAttr name (bytes_of p)
+damage_of (line_damages.RmAttr name) = damages.RmAttr name
+damage_of (line_damages.SetOmap key p) = damages.SetOmap key (bytes_of p)
+damage_of (line_damages.RmOmap key) = damages.RmOmap key
+damage_of (line_damages.SetHeader p) = damages.SetHeader (bytes_of p)
 
 abbrev pub id_of : ℕ → ℕ → ReqId
 id_of client serial = record { client = client; serial = serial }
@@ -99,10 +112,14 @@ after_applying w group osd = record w {
   done = dones.Apply group osd (answer_said (apply_answer (past_in w.members osd))) ∷ w.done;
 }
 
+abbrev pub damage_said : DamageAnswer → LineDamageAnswer
+damage_said damage_answers.Damaged = line_answers.Damaged
+damage_said (damage_answers.ShardFull bytes) = line_answers.ShardFull bytes
+
 abbrev pub after_damaging : WorldState → ℕ → ℕ → Object → Snap → LineDamage → WorldState
 after_damaging w group osd object snap damage = record w {
-  members = with_event osd (Damaged (family_of object) (snap_of snap) (damage_of damage)) w.members;
-  done = dones.Damage group osd object snap damage ∷ w.done;
+  members = with_damage osd (family_of object) (snap_of snap) (damage_of damage) w.members;
+  done = dones.Damage group osd object snap damage (damage_said (damage_in w.members osd (family_of object) (snap_of snap) (damage_of damage))) ∷ w.done;
 }
 
 -- ---- any of them

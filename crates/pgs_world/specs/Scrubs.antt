@@ -15,7 +15,7 @@ use Rattle.pgs_lines.specs.declared.bound.Bound.{Bound as LineBound}
 use Rattle.pgs_lines.specs.declared.bound.Bound.TheVariants as line_bounds
 use Rattle.pgs_lines.specs.declared.range.Range.{Range as LineRange}
 use Rattle.pgs_lines.specs.declared.kind.Kind.{Kind as LineKind}
-use Rattle.pgs_lines.specs.declared.kind.Kind.TheVariants.{Deep}
+use Rattle.pgs_lines.specs.declared.kind.Kind.TheVariants as line_kinds
 use Rattle.pgs_lines.specs.declared.begin_answer.BeginAnswer.{BeginAnswer as LineBegin}
 use Rattle.pgs_lines.specs.declared.begin_answer.BeginAnswer.TheVariants as line_begins
 use Rattle.pgs_lines.specs.declared.open_answer.OpenAnswer.{OpenAnswer as LineOpen}
@@ -23,7 +23,7 @@ use Rattle.pgs_lines.specs.declared.open_answer.OpenAnswer.TheVariants as line_o
 use Rattle.pgs_lines.specs.declared.close_answer.CloseAnswer.{CloseAnswer as LineClose}
 use Rattle.pgs_lines.specs.declared.close_answer.CloseAnswer.TheVariants as line_closes
 use Rattle.pgs_lines.specs.declared.done.Done.TheVariants as dones
-use Rattle.pgs_history.specs.Scrubs.{running, opened, open_chunk, start, limit_now}
+use Rattle.pgs_history.specs.Scrubs.{running, opened, open_chunk, start, limit_now, last_kind, is_deep}
 use Rattle.pgs_history.specs.Answers.{begin_answer, open_answer, close_answer, primary}
 use Rattle.pgs_history.specs.After.{after_begin, after_open, after_take, after_close}
 use Rattle.pgs_history.specs.declared.chunk.Chunk.{Chunk}
@@ -31,8 +31,9 @@ use Rattle.pgs_history.specs.declared.begin_answer.BeginAnswer.{BeginAnswer}
 use Rattle.pgs_history.specs.declared.begin_answer.BeginAnswer.TheVariants as begins
 use Rattle.pgs_history.specs.declared.open_answer.OpenAnswer.{OpenAnswer}
 use Rattle.pgs_history.specs.declared.open_answer.OpenAnswer.TheVariants as opens
-use Rattle.pgs_history.specs.declared.close_answer.CloseAnswer.{CloseAnswer}
-use Rattle.pgs_history.specs.declared.close_answer.CloseAnswer.TheVariants as closes
+use Rattle.pgs_group.specs.Steps.{close_told}
+use Rattle.pgs_group.specs.declared.close_told.CloseTold.{CloseTold}
+use Rattle.pgs_group.specs.declared.close_told.CloseTold.TheVariants as told
 use Rattle.pgs_shard.specs.Listed.{positions}
 use Rattle.pgs_shard.specs.Stores.{applied}
 use Rattle.pgs_shard.specs.declared.event.Event.{Event as ShardEvent}
@@ -55,7 +56,8 @@ abbrev pub range_said : FamilyRange → LineRange
 range_said range = record { from = bound_said range.from; to = bound_said range.to }
 
 abbrev pub kind_of : LineKind → Kind
-kind_of Deep = kinds.Deep
+kind_of line_kinds.Shallow = kinds.Shallow
+kind_of line_kinds.Deep = kinds.Deep
 
 abbrev pub begin_said : BeginAnswer → LineBegin
 begin_said (begins.Busy serial) = line_begins.Busy serial
@@ -65,12 +67,11 @@ abbrev pub open_said : OpenAnswer → LineOpen
 open_said (opens.Already chunk) = line_opens.Already chunk
 open_said (opens.Opened chunk) = line_opens.Opened chunk.number (range_said chunk.range) chunk.version chunk.limit chunk.firm
 
--- findings about clones come with clones
-abbrev pub close_said : ℕ → CloseAnswer → LineClose
-close_said chunk closes.NoChunk = line_closes.NoChunk
-close_said chunk closes.ClosedBefore = line_closes.ClosedBefore chunk
-close_said chunk (closes.NotYet osd) = line_closes.NotYet osd
-close_said chunk (closes.Closed findings completes) = line_closes.Closed chunk findings 0 completes
+abbrev pub close_said : ℕ → CloseTold → LineClose
+close_said chunk told.NoChunk = line_closes.NoChunk
+close_said chunk told.ClosedBefore = line_closes.ClosedBefore chunk
+close_said chunk (told.NotYet osd) = line_closes.NotYet osd
+close_said chunk (told.Closed findings snaps completes) = line_closes.Closed chunk findings snaps completes
 
 -- ---- begin
 
@@ -114,7 +115,7 @@ after_opening w group = record (past_opened (running w.past) w) { done = dones.O
 
 -- ---- take
 
--- the map of a chunk that an OSD makes at once of what it stores
+-- the map of a chunk that an OSD makes at once of what it stores, with digests where the scrub is deep
 abbrev pub map_of : WorldState → ℕ → Chunk → ScrubMap
 map_of w osd chunk = record {
   osd = osd;
@@ -123,7 +124,7 @@ map_of w osd chunk = record {
   needed = chunk.version;
   applied = applied (past_in w.members osd);
   range = chunk.range;
-  entries = entries_in chunk.range (past_in w.members osd);
+  entries = entries_in (is_deep (last_kind w.past)) chunk.range (past_in w.members osd);
 }
 
 abbrev pub taking : Option Chunk → WorldState → ℕ → WorldState
@@ -144,7 +145,7 @@ all_taken w (osd ∷ osds) = all_taken (after_taking w osd) osds
 abbrev pub after_closing : WorldState → ℕ → WorldState
 after_closing w group = record w {
   past = after_close w.made w.past (opened w.past);
-  done = dones.Close group (close_said (opened w.past) (close_answer w.made w.past (opened w.past))) ∷ w.done;
+  done = dones.Close group (close_said (opened w.past) (close_told (close_answer w.made w.past (opened w.past)))) ∷ w.done;
 }
 
 -- ---- a whole scrub

@@ -7,7 +7,7 @@ use pgs_lines::{Object, Snap};
 use pgs_name::{Family, HEAD};
 use pgs_op::Write;
 use pgs_request::{Op, ReqId, SnapContext};
-use std::alloc::AllocError;
+use std::alloc::{AllocError, Global};
 
 /// The family of an object.
 pub fn family_of(object: &Object) -> Result<Family, AllocError>
@@ -50,10 +50,39 @@ pub fn snap_of(snap: Snap) -> u64
     }
 }
 
-pub fn damage_of(damage: pgs_lines::Damage) -> Damage
-    ensures { result ≡ basics.damage_of damage }
+/// The damage that a line asks for.
+pub fn damage_of(alloc: Global, damage: &pgs_lines::Damage) -> Result<Damage, AllocError>
+    ensures { IfOk result (λ d. d ≡ basics.damage_of damage.now) }
 {
     match damage {
-        pgs_lines::Damage::Flip { at, xor } => Damage::Flip { at, xor },
+        pgs_lines::Damage::Lose => Ok(Damage::Lose),
+        pgs_lines::Damage::Flip { at, xor } => Ok(Damage::Flip { at: *at, xor: *xor }),
+        pgs_lines::Damage::Cut { size } => Ok(Damage::Cut { size: *size }),
+        pgs_lines::Damage::SetData { payload } => {
+            let bytes = payload.to_bytes(alloc)?;
+            Ok(Damage::SetData { bytes })
+        }
+        pgs_lines::Damage::SetAttr { name, payload } => {
+            let name = name.clone()?;
+            let value = payload.to_bytes(alloc)?;
+            Ok(Damage::SetAttr { name, value })
+        }
+        pgs_lines::Damage::RmAttr { name } => {
+            let name = name.clone()?;
+            Ok(Damage::RmAttr { name })
+        }
+        pgs_lines::Damage::SetOmap { key, payload } => {
+            let key = key.clone()?;
+            let value = payload.to_bytes(alloc)?;
+            Ok(Damage::SetOmap { key, value })
+        }
+        pgs_lines::Damage::RmOmap { key } => {
+            let key = key.clone()?;
+            Ok(Damage::RmOmap { key })
+        }
+        pgs_lines::Damage::SetHeader { payload } => {
+            let bytes = payload.to_bytes(alloc)?;
+            Ok(Damage::SetHeader { bytes })
+        }
     }
 }

@@ -1,13 +1,16 @@
-//! How lines say what a scrub answers.
+//! How lines say what a group and a shard answer.
 ghost use Rattle.std.specs.Prelude.{◌≡◌, IfOk};
 ghost use Rattle.pgs_lines.specs.declared.open_answer.OpenAnswer.TheVariants as line_opens;
+ghost use Rattle.pgs_world.specs.Basics as basics;
 ghost use Rattle.pgs_world.specs.Scrubs as scrubs;
 
 use pgs_bytes::Bytes;
-use pgs_history::{BeginAnswer, Chunk, CloseAnswer, OpenAnswer};
+use pgs_group::CloseTold;
+use pgs_history::{BeginAnswer, Chunk, OpenAnswer};
 use pgs_lines::Object;
 use pgs_name::Family;
 use pgs_range::{Bound, FamilyRange};
+use pgs_shard::DamageAnswer;
 use std::alloc::{AllocError, Global};
 
 fn object_of(alloc: Global, family: &Family) -> Result<Object, AllocError>
@@ -44,6 +47,7 @@ pub fn kind_of(kind: pgs_lines::Kind) -> pgs_chunk::Kind
     ensures { result ≡ scrubs.kind_of kind }
 {
     match kind {
+        pgs_lines::Kind::Shallow => pgs_chunk::Kind::Shallow,
         pgs_lines::Kind::Deep => pgs_chunk::Kind::Deep,
     }
 }
@@ -79,21 +83,31 @@ pub fn open_said(alloc: Global, answer: &OpenAnswer) -> Result<pgs_lines::OpenAn
     }
 }
 
-pub fn close_said(chunk: u64, answer: CloseAnswer) -> pgs_lines::CloseAnswer
-    ensures { result ≡ scrubs.close_said chunk answer }
+pub fn close_said(chunk: u64, told: CloseTold) -> pgs_lines::CloseAnswer
+    ensures { result ≡ scrubs.close_said chunk told }
 {
-    match answer {
-        CloseAnswer::NoChunk => pgs_lines::CloseAnswer::NoChunk,
-        CloseAnswer::ClosedBefore => pgs_lines::CloseAnswer::ClosedBefore { chunk },
-        CloseAnswer::NotYet { osd } => pgs_lines::CloseAnswer::NotYet { osd },
-        CloseAnswer::Closed {
+    match told {
+        CloseTold::NoChunk => pgs_lines::CloseAnswer::NoChunk,
+        CloseTold::ClosedBefore => pgs_lines::CloseAnswer::ClosedBefore { chunk },
+        CloseTold::NotYet { osd } => pgs_lines::CloseAnswer::NotYet { osd },
+        CloseTold::Closed {
             findings,
+            snaps,
             completes,
         } => pgs_lines::CloseAnswer::Closed {
             chunk,
             findings,
-            snaps: 0,
+            snaps,
             completes,
         },
+    }
+}
+
+pub fn damage_said(answer: DamageAnswer) -> pgs_lines::DamageAnswer
+    ensures { result ≡ basics.damage_said answer }
+{
+    match answer {
+        DamageAnswer::Damaged => pgs_lines::DamageAnswer::Damaged,
+        DamageAnswer::ShardFull { bytes } => pgs_lines::DamageAnswer::ShardFull { bytes },
     }
 }

@@ -1,6 +1,7 @@
 ghost use Rattle.std.specs.Prelude.{◌≡◌, ℕ, true, reverse, is_some, None, IfOk, OnOk};
 ghost use Rattle.pgs_history.specs.Scrubs.{running};
 ghost use Rattle.pgs_history.specs.Answers.{primary};
+ghost use Rattle.pgs_shards.specs.Members.{damage_in, with_damage};
 ghost use Rattle.pgs_world.specs.State.{opening};
 ghost use Rattle.pgs_world.specs.Basics as basics;
 ghost use Rattle.pgs_world.specs.Steps as steps;
@@ -10,11 +11,12 @@ ghost use Rattle.pgs_world.specs.Scrubbed.{AreScrubbed};
 ghost use Rattle.pgs_lines.specs.Contexts.{meant};
 
 use crate::naming::{damage_of, family_of, snap_of, write_of};
+use crate::saying::damage_said;
 use pgs_group::Group;
 use pgs_history::Made;
 use pgs_lines::{ApplyAnswer, Basic, Context, Damage, Done, Object, Snap, Step};
 use pgs_request::{Op, ReqId};
-use pgs_shard::Applied;
+use pgs_shard::{Applied, DamageAnswer};
 use pgs_shards::Shards;
 use sqlite_items::Items;
 use std::alloc::{AllocError, Global};
@@ -174,23 +176,38 @@ impl World {
         osd: u32,
         object: &Object,
         snap: Snap,
-        damage: Damage,
+        damage: &Damage,
     ) -> Result<(), AllocError>
-        ensures { OnOk result (self.new ≡ basics.after_damaging self.old group osd object.now snap damage) }
+        ensures { OnOk result (self.new ≡ basics.after_damaging self.old group osd object.now snap damage.now) }
     {
-        self.done.reserve(1)?;
-        let family = family_of(object)?;
+        let answer = self.do_damage(osd, object, snap, damage)?;
         let object = object.clone()?;
-        self.shards
-            .damage(osd, family, snap_of(snap), damage_of(damage))?;
-        self.done.push_reserved(Done::Damage {
+        let damage = damage.clone()?;
+        self.done.push(Done::Damage {
             group,
             osd,
             object,
             snap,
             damage,
-        });
+            answer: damage_said(answer),
+        })?;
         Ok(())
+    }
+
+    // What a copy's damage is answered.
+    fn do_damage(
+        &mut self,
+        osd: u32,
+        object: &Object,
+        snap: Snap,
+        damage: &Damage,
+    ) -> Result<DamageAnswer, AllocError>
+        ensures answer { IfOk result (λ a. a ≡ damage_in self.old.members osd (basics.family_of object.now) (basics.snap_of snap) (basics.damage_of damage.now)) }
+        ensures kept { OnOk result (self.new ≡ record self.old { members = with_damage osd (basics.family_of object.now) (basics.snap_of snap) (basics.damage_of damage.now) self.old.members }) }
+    {
+        let family = family_of(object)?;
+        let damage = damage_of(self.alloc, damage)?;
+        self.shards.damage(osd, family, snap_of(snap), damage)
     }
 
     /// Does a single step, and keeps it with its answer. Where memory runs out a part of it may be done.
@@ -233,7 +250,7 @@ impl World {
                 object,
                 snap,
                 damage,
-            } => self.damage(*group, *osd, object, *snap, *damage),
+            } => self.damage(*group, *osd, object, *snap, damage),
         }
     }
 

@@ -1,18 +1,20 @@
 //! The steps of a group's scrubs.
-ghost use Rattle.std.specs.Prelude.{◌≡◌, true, is_some, IfOk, OnOk, OnErr, Some};
+ghost use Rattle.std.specs.Prelude.{◌≡◌, true, is_some, IfOk, OnOk, OnErr, Some, None};
 ghost use Rattle.pgs_chunk.specs.Positions.{Ascends};
 ghost use Rattle.pgs_map.specs.Entries.{AreInRange};
-ghost use Rattle.pgs_history.specs.Scrubs.{running};
+ghost use Rattle.pgs_history.specs.Scrubs.{running, last_kind, is_deep};
 ghost use Rattle.pgs_history.specs.Answers.{begin_answer, open_answer, take_answer, close_answer, unclosed, found, next_chunk, primary};
 ghost use Rattle.pgs_history.specs.After.{after_begin, after_open, after_take, after_close};
 ghost use Rattle.pgs_history.specs.Legal.{IsLegal};
-ghost use Rattle.pgs_group.specs.Steps.{IsNextChunk};
+ghost use Rattle.pgs_group.specs.Steps.{IsNextChunk, close_told};
 
 use super::Group;
-use crate::finding::count;
+use crate::close_told::{CloseTold, told_of};
+use crate::comparing::compare;
 use crate::next_chunk::NextChunk;
 use crate::taken::first_missing;
 use pgs_chunk::{Kind, limit_after, select};
+use pgs_compare::Report;
 use pgs_history::{BeginAnswer, Chunk, CloseAnswer, Event, OpenAnswer, TakeAnswer};
 use pgs_map::ScrubMap;
 use pgs_name::ObjectId;
@@ -35,7 +37,7 @@ impl Group {
             self.events.push_reserved(Event::Begin { kind, answer });
             return Ok(answer);
         }
-        let serial = self.scrubs.begin();
+        let serial = self.scrubs.begin(kind);
         let answer = BeginAnswer::Began { serial };
         self.events.push_reserved(Event::Begin { kind, answer });
         Ok(answer)
@@ -146,42 +148,68 @@ impl Group {
         }
     }
 
-    // How many positions of a chunk have a finding.
-    fn found(&self, chunk: u64) -> Result<u64, AllocError>
-        ensures { IfOk result (λ n. n ≡ found self.now.made self.now.past chunk) }
+    // What comparing the maps of a chunk finds.
+    #[tactic(auto, using(crate::proofs::Scrubs::compared_so))]
+    fn found(&self, chunk: u64) -> Result<Report, AllocError>
+        ensures { IfOk result (λ r. r ≡ found self.now.made self.now.past chunk) }
     {
         let members = self.made.members.as_slice();
-        count(
+        compare(
             self.alloc,
-            &self.clean,
+            self.scrubs.version(),
             self.events.as_slice(),
             chunk,
             members,
         )
     }
 
+    // Closes the chunk that is open, of which no map is missing.
+    fn close_open(&mut self, chunk: u64) -> Result<CloseTold, AllocError>
+        requires { unclosed self.old.made self.old.past chunk ≡ None }
+        ensures answer { IfOk result (λ told. told ≡ close_told (close_answer self.old.made self.old.past chunk)) }
+        ensures kept { OnOk result (self.new ≡ record self.old { past = after_close self.old.made self.old.past chunk }) }
+        ensures err { OnErr result (self.new ≡ self.old) }
+    {
+        self.events.reserve(1)?;
+        let report = self.found(chunk)?;
+        let findings = report.found.len() as u64;
+        let snaps = report.snaps.len() as u64;
+        let completes = self.scrubs.close();
+        self.events.push_reserved(Event::Close {
+            chunk,
+            answer: CloseAnswer::Closed { report, completes },
+        });
+        Ok(CloseTold::Closed {
+            findings,
+            snaps,
+            completes,
+        })
+    }
+
     /// Closes a chunk, where it is open and no acting OSD's map of it is missing.
-    pub fn close(&mut self, chunk: u64) -> Result<CloseAnswer, AllocError>
-        ensures answer { IfOk result (λ a. a ≡ close_answer self.old.made self.old.past chunk) }
+    pub fn close(&mut self, chunk: u64) -> Result<CloseTold, AllocError>
+        ensures answer { IfOk result (λ told. told ≡ close_told (close_answer self.old.made self.old.past chunk)) }
         ensures kept { OnOk result (self.new ≡ record self.old { past = after_close self.old.made self.old.past chunk }) }
         ensures err { OnErr result (self.new ≡ self.old) }
         ensures legal { IsLegal self.old.made self.old.past → IsLegal self.new.made self.new.past }
     {
         self.events.reserve(1)?;
         if let Some(answer) = self.not_closed(chunk) {
-            if let CloseAnswer::NotYet { .. } = answer {
-                return Ok(answer);
+            let told = told_of(&answer);
+            if let CloseTold::NotYet { .. } = told {
+                drop(answer);
+                return Ok(told);
             }
             self.events.push_reserved(Event::Close { chunk, answer });
-            return Ok(answer);
+            return Ok(told);
         }
-        let findings = self.found(chunk)?;
-        let completes = self.scrubs.close();
-        let answer = CloseAnswer::Closed {
-            findings,
-            completes,
-        };
-        self.events.push_reserved(Event::Close { chunk, answer });
-        Ok(answer)
+        self.close_open(chunk)
+    }
+
+    /// Whether the scrub that began last reads the data and the omaps of copies.
+    pub fn is_deep(&self) -> bool
+        ensures { result ≡ is_deep (last_kind self.now.past) }
+    {
+        self.scrubs.is_deep()
     }
 }

@@ -3,6 +3,7 @@ ghost use Rattle.pgs_lines.specs.Done as done_lines;
 ghost use Rattle.pgs_lines.specs.Done.{behind, begins};
 
 use super::answers::{push_applied, push_collected, push_count, push_pulled, push_written};
+use super::damages::push_damaged;
 use super::scrubs::{push_begin, push_begun, push_closed, push_group, push_opened};
 use super::steps::{push_collect, push_damage_step, push_member, push_write};
 use super::words::push_word;
@@ -37,7 +38,8 @@ fn push_step(alloc: Global, done: &Done, out: &mut Vec<u8>) -> Result<(), AllocE
             object,
             snap,
             damage,
-        } => push_damage_step(alloc, *group, *osd, object, *snap, *damage, out),
+            ..
+        } => push_damage_step(alloc, *group, *osd, object, *snap, damage, out),
         Done::Begin { group, kind, .. } => push_begin(alloc, *group, *kind, out),
         Done::Open { group, .. } => push_group(alloc, b"open", *group, out),
         Done::Close { group, .. } => push_group(alloc, b"close", *group, out),
@@ -54,7 +56,7 @@ fn push_answer(alloc: Global, done: &Done, out: &mut Vec<u8>) -> Result<(), Allo
         Done::Pull { from, to, .. } => push_pulled(alloc, *from, *to, out),
         Done::Apply { answer, .. } => push_applied(alloc, *answer, out),
         Done::Tell { applied, .. } => push_count(alloc, b"told", *applied, out),
-        Done::Damage { .. } => push_word(b"damaged", out),
+        Done::Damage { answer, .. } => push_damaged(alloc, *answer, out),
         Done::Begin { group, answer, .. } => push_begun(alloc, *group, *answer, out),
         Done::Open { answer, .. } => push_opened(alloc, answer, out),
         Done::Close { answer, .. } => push_closed(alloc, *answer, out),

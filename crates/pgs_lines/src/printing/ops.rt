@@ -9,9 +9,9 @@ use super::words::{push_payload, push_word};
 use pgs_request::{Op, Payload};
 use std::alloc::{AllocError, Global};
 
-// Appends a word and a payload.
+/// Appends a word and a payload.
 #[tactic(auto, using(crate::proofs::Behind::joins))]
-fn push_value(
+pub fn push_value(
     alloc: Global,
     word: &[u8],
     payload: &Payload,
@@ -32,18 +32,18 @@ fn push_put(alloc: Global, at: u32, payload: &Payload, out: &mut Vec<u8>) -> Res
     push_payload(alloc, payload, out)
 }
 
-// Appends a word and a name.
+/// Appends a word and a name.
 #[tactic(auto, using(crate::proofs::Behind::joins))]
-fn push_named(word: &[u8], name: &[u8], out: &mut Vec<u8>) -> Result<(), AllocError>
+pub fn push_named(word: &[u8], name: &[u8], out: &mut Vec<u8>) -> Result<(), AllocError>
     ensures { OnOk result (out.new.items ≡ out.old.items ++ behind (word.now ∷ name.now ∷ [])) }
 {
     push_word(word, out)?;
     push_word(name, out)
 }
 
-// Appends a word, a name and a payload.
+/// Appends a word, a name and a payload.
 #[tactic(auto, using(crate::proofs::Behind::joins))]
-fn push_pair(
+pub fn push_pair(
     alloc: Global,
     word: &[u8],
     name: &[u8],

@@ -33,6 +33,7 @@ fn push_kind(kind: Kind, out: &mut Vec<u8>) -> Result<(), AllocError>
     ensures { OnOk result (out.new.items ≡ out.old.items ++ behind (kind_word kind ∷ [])) }
 {
     match kind {
+        Kind::Shallow => push_word(b"shallow", out),
         Kind::Deep => push_word(b"deep", out),
     }
 }

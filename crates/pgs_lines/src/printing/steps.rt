@@ -7,6 +7,7 @@ ghost use Rattle.pgs_lines.specs.Ranges.{as_kept};
 ghost use Rattle.pgs_lines.specs.declared.basic.Basic.TheVariants as said;
 
 use super::contexts::push_context;
+use super::damages::push_damage;
 use super::objects::push_object;
 use super::ops::push_op;
 use super::words::{push_number, push_word};
@@ -15,19 +16,6 @@ use crate::object::Object;
 use crate::snap::Snap;
 use pgs_request::{Op, SnapContext};
 use std::alloc::{AllocError, Global};
-
-#[tactic(auto, using(crate::proofs::Behind::joins))]
-fn push_damage(alloc: Global, damage: Damage, out: &mut Vec<u8>) -> Result<(), AllocError>
-    ensures { OnOk result (out.new.items ≡ out.old.items ++ behind ((objects.damage).spell damage)) }
-{
-    match damage {
-        Damage::Flip { at, xor } => {
-            push_word(b"flip", out)?;
-            push_number(alloc, u64::from(at), out)?;
-            push_number(alloc, u64::from(xor), out)
-        }
-    }
-}
 
 fn push_snap(alloc: Global, snap: Snap, out: &mut Vec<u8>) -> Result<(), AllocError>
     ensures { OnOk result (out.new.items ≡ out.old.items ++ behind ((objects.snap).spell snap ∷ [])) }
@@ -100,10 +88,10 @@ pub fn push_damage_step(
     osd: u32,
     object: &Object,
     snap: Snap,
-    damage: Damage,
+    damage: &Damage,
     out: &mut Vec<u8>,
 ) -> Result<(), AllocError>
-    ensures { OnOk result (out.new.items ≡ out.old.items ++ begins (basics.basic_said (said.Damage group osd (as_kept object.now) snap damage)).words) }
+    ensures { OnOk result (out.new.items ≡ out.old.items ++ begins (basics.basic_said (said.Damage group osd (as_kept object.now) snap damage.now)).words) }
 {
     push_member(alloc, b"damage", group, osd, out)?;
     push_object(object, out)?;

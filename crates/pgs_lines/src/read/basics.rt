@@ -4,7 +4,8 @@ ghost use Rattle.pgs_words.specs.Forms.{Gives, left};
 ghost use Rattle.pgs_lines.specs.Basics as basics;
 
 use super::contexts::context;
-use super::objects::{damage, snap};
+use super::damages::damage;
+use super::objects::snap;
 use super::ops::op;
 use crate::basic::Basic;
 use crate::object::Object;
@@ -64,7 +65,7 @@ fn damage_step(alloc: Global, words: Option<&[u8]>) -> Result<Basic, ReadError>
     let (key, words) = dashed(alloc, words, 255)?;
     let (name, words) = name(alloc, words, 255)?;
     let (snap, words) = snap(words)?;
-    let damage = damage(words)?;
+    let damage = damage(alloc, words)?;
     let object = Object { space, key, name };
     Ok(Basic::Damage {
         group,

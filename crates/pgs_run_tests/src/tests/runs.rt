@@ -89,17 +89,36 @@ fn refusals(rt: HostRuntime) -> Result<(), Fail> {
     Ok(())
 }
 
+// The status of a run without words.
+fn without_words(alloc: Global) -> Result<u8, AllocError> {
+    let text = Bytes::from_slice(alloc, b"end\n")?;
+    let mut source = MemSource::new(text, 64, Vec::new(alloc));
+    let mut sink = MemSink::new(alloc, 8, Vec::new(alloc), Vec::new(alloc));
+    let words = Vec::new(alloc);
+    let status = top(alloc, words.as_slice(), &mut source, &mut sink).status;
+    Ok(status.number())
+}
+
+// The status of a script that declares nothing, and whether no world was kept.
+fn of_nothing(alloc: Global) -> Result<(u8, bool), AllocError> {
+    let text = Bytes::from_slice(alloc, b"end\n")?;
+    let mut source = MemSource::new(text, 64, Vec::new(alloc));
+    let mut sink = MemSink::new(alloc, 8, Vec::new(alloc), Vec::new(alloc));
+    let ended = replay(alloc, Settings::usual(), &mut source, &mut sink);
+    Ok((ended.status.number(), ended.kept.world.is_none()))
+}
+
 #[test]
 fn other_words_than_replay(rt: HostRuntime) -> Result<(), Fail> {
     let alloc = rt.alloc();
-    let mut sink = MemSink::new(alloc, 8, Vec::new(alloc), Vec::new(alloc));
-    let mut source = MemSource::new(Bytes::from_slice(alloc, b"end\n")?, 64, Vec::new(alloc));
-    let no_words = Vec::new(alloc);
-    let ended = top(alloc, no_words.as_slice(), &mut source, &mut sink);
-    assert_eq!(rt; ended.status.number(), 2);
-    let ended = replay(alloc, Settings::usual(), &mut source, &mut sink);
-    assert_eq!(rt; ended.status.number(), 0);
-    assert!(rt; ended.kept.world.is_none());
+    assert_eq!(rt; without_words(alloc)?, 2);
+    assert_eq!(rt; of_nothing(alloc)?, (0, true));
+    Ok(())
+}
+
+#[test]
+fn what_a_script_declares(rt: HostRuntime) -> Result<(), Fail> {
+    let alloc = rt.alloc();
     assert!(rt; parse_steps(alloc, b"end\n")?.over);
     assert!(rt; Declarations::new(alloc).bits.is_none());
     Ok(())

@@ -3,21 +3,18 @@ ghost use Rattle.std.specs.Prelude.{IfOk};
 ghost use Rattle.pgs_chunk.specs.Positions.{Ascends};
 ghost use Rattle.pgs_map.specs.Entries.{AreInRange};
 
-use crate::making::{head, heads, last_head, made, map_of, written};
+use crate::making::{DIGEST, entry, head, heads, last_head, made, map_of, written};
 use pgs_chunk::Kind;
-use pgs_group::{Group, NextChunk};
-use pgs_history::{BeginAnswer, CloseAnswer, OpenAnswer, TakeAnswer};
-use pgs_map::{Entry, ScrubMap};
+use pgs_group::{CloseTold, Group, NextChunk};
+use pgs_history::{BeginAnswer, OpenAnswer, TakeAnswer};
+use pgs_map::ScrubMap;
 use pgs_name::ObjectId;
 use pgs_range::{Bound, FamilyRange};
 use sqlite_items::Items;
 use std::alloc::Global;
 use std::test::Fail;
 
-/// The CRC-32C of the byte x with no inversion at its end, computed by another program.
-pub const DIGEST: u32 = 0x56C3_A06C;
-
-/// That of the byte y.
+/// The CRC-32C of the byte y with no inversion at its end, computed by another program.
 pub const OTHER: u32 = 0xA4A8_236F;
 
 pub fn begin(group: &mut Group) -> Result<BeginAnswer, Fail> {
@@ -57,15 +54,6 @@ fn range_of(group: &Group) -> Result<FamilyRange, Fail> {
     }
 }
 
-fn entry(alloc: Global, name: &[u8], digest: u32) -> Result<Entry, Fail> {
-    let id = head(alloc, name)?;
-    Ok(Entry {
-        id,
-        size: 1,
-        data_digest: Some(digest),
-    })
-}
-
 /// A member's map of a chunk, with one object.
 pub fn map_for(
     alloc: Global,
@@ -78,7 +66,8 @@ pub fn map_for(
     ensures { IfOk result (λ map. AreInRange map.range map.entries) }
 {
     let range = range_of(group)?;
-    let entry = entry(alloc, name, digest)?;
+    let id = head(alloc, name)?;
+    let entry = entry(alloc, id, digest)?;
     let map = map_of(alloc, osd, chunk, range, entry)?;
     Ok(map)
 }
@@ -96,7 +85,7 @@ pub fn take(
     Ok(group.take(5, map)?)
 }
 
-pub fn close(group: &mut Group, chunk: u64) -> Result<CloseAnswer, Fail> {
+pub fn close(group: &mut Group, chunk: u64) -> Result<CloseTold, Fail> {
     Ok(group.close(chunk)?)
 }
 

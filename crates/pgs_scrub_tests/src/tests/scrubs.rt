@@ -1,12 +1,13 @@
+use crate::making::DIGEST;
 use crate::tests::calls::{
-    DIGEST, OTHER, begin, close, completed, next_chunk, open_heads, open_last, past_first,
-    scrubbed, take, with_first, with_last_maps, with_maps, with_writes,
+    OTHER, begin, close, completed, next_chunk, open_heads, open_last, past_first, scrubbed, take,
+    with_first, with_last_maps, with_maps, with_writes,
 };
 use crate::tests::seen::{
     Numbers, already, firm, lies, open_now, opened, primary_and_limit, starts,
 };
-use pgs_group::NextChunk;
-use pgs_history::{BeginAnswer, CloseAnswer, OpenAnswer, TakeAnswer};
+use pgs_group::{CloseTold, NextChunk};
+use pgs_history::{BeginAnswer, OpenAnswer, TakeAnswer};
 use std::alloc::Global;
 use std::test::Fail;
 
@@ -152,18 +153,18 @@ fn maps_of_the_open_chunk(rt: HostRuntime) -> Result<(), Fail> {
     Ok(())
 }
 
-fn closed_early(alloc: Global) -> Result<CloseAnswer, Fail> {
+fn closed_early(alloc: Global) -> Result<CloseTold, Fail> {
     let mut group = with_first(alloc)?;
     close(&mut group, 1)
 }
 
 // The answer where one map has this digest, and the others have that of what was written.
-fn closed(alloc: Global, digest: u32) -> Result<CloseAnswer, Fail> {
+fn closed(alloc: Global, digest: u32) -> Result<CloseTold, Fail> {
     let mut group = with_maps(alloc, digest)?;
     close(&mut group, 1)
 }
 
-fn closed_last(alloc: Global) -> Result<CloseAnswer, Fail> {
+fn closed_last(alloc: Global) -> Result<CloseTold, Fail> {
     let mut group = with_last_maps(alloc)?;
     close(&mut group, 2)
 }
@@ -171,14 +172,16 @@ fn closed_last(alloc: Global) -> Result<CloseAnswer, Fail> {
 #[test]
 fn chunks_close(rt: HostRuntime) -> Result<(), Fail> {
     let alloc = rt.alloc();
-    assert!(rt; closed_early(alloc)? == CloseAnswer::NotYet { osd: 0 });
-    let first = CloseAnswer::Closed {
+    assert!(rt; closed_early(alloc)? == CloseTold::NotYet { osd: 0 });
+    let first = CloseTold::Closed {
         findings: 0,
+        snaps: 0,
         completes: false,
     };
     assert!(rt; closed(alloc, DIGEST)? == first);
-    let last = CloseAnswer::Closed {
+    let last = CloseTold::Closed {
         findings: 0,
+        snaps: 0,
         completes: true,
     };
     assert!(rt; closed_last(alloc)? == last);
@@ -187,8 +190,9 @@ fn chunks_close(rt: HostRuntime) -> Result<(), Fail> {
 
 #[test]
 fn another_digest_is_a_finding(rt: HostRuntime) -> Result<(), Fail> {
-    let wanted = CloseAnswer::Closed {
+    let wanted = CloseTold::Closed {
         findings: 1,
+        snaps: 0,
         completes: false,
     };
     assert!(rt; closed(rt.alloc(), OTHER)? == wanted);
@@ -196,7 +200,7 @@ fn another_digest_is_a_finding(rt: HostRuntime) -> Result<(), Fail> {
 }
 
 // The answer to a close where the first chunk is closed.
-fn closed_later(alloc: Global, chunk: u64) -> Result<CloseAnswer, Fail> {
+fn closed_later(alloc: Global, chunk: u64) -> Result<CloseTold, Fail> {
     let mut group = past_first(alloc)?;
     close(&mut group, chunk)
 }
@@ -204,7 +208,7 @@ fn closed_later(alloc: Global, chunk: u64) -> Result<CloseAnswer, Fail> {
 #[test]
 fn no_chunk_closes_twice(rt: HostRuntime) -> Result<(), Fail> {
     let alloc = rt.alloc();
-    assert!(rt; closed_later(alloc, 1)? == CloseAnswer::ClosedBefore);
-    assert!(rt; closed_later(alloc, 9)? == CloseAnswer::NoChunk);
+    assert!(rt; closed_later(alloc, 1)? == CloseTold::ClosedBefore);
+    assert!(rt; closed_later(alloc, 9)? == CloseTold::NoChunk);
     Ok(())
 }

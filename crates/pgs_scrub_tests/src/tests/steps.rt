@@ -1,12 +1,12 @@
 //! The same by steps.
 ghost use Rattle.pgs_chunk.specs.Positions.{Ascends};
 
-use crate::making::heads;
-use crate::tests::calls::{DIGEST, map_for, scrubbed, with_first, with_maps, with_writes};
+use crate::making::{DIGEST, heads};
+use crate::tests::calls::{map_for, scrubbed, with_first, with_maps, with_writes};
 use crate::tests::seen::opened;
 use pgs_chunk::Kind;
-use pgs_group::{Answer, Group, Step};
-use pgs_history::{BeginAnswer, CloseAnswer, OpenAnswer, TakeAnswer};
+use pgs_group::{Answer, CloseTold, Group, Step};
+use pgs_history::{BeginAnswer, OpenAnswer, TakeAnswer};
 use pgs_name::ObjectId;
 use sqlite_items::Items;
 use std::alloc::Global;
@@ -55,7 +55,7 @@ fn taken(alloc: Global) -> Result<Option<TakeAnswer>, Fail> {
 }
 
 // A chunk that closes.
-fn closed(alloc: Global) -> Result<Option<CloseAnswer>, Fail> {
+fn closed(alloc: Global) -> Result<Option<CloseTold>, Fail> {
     let mut group = with_maps(alloc, DIGEST)?;
     match group.step(Step::Close { chunk: 1 })? {
         Answer::Close { answer } => Ok(Some(answer)),
@@ -75,8 +75,9 @@ fn a_step_of_each_kind(rt: HostRuntime) -> Result<(), Fail> {
 
 #[test]
 fn a_step_that_closes(rt: HostRuntime) -> Result<(), Fail> {
-    let wanted = CloseAnswer::Closed {
+    let wanted = CloseTold::Closed {
         findings: 0,
+        snaps: 0,
         completes: false,
     };
     assert_eq!(rt; closed(rt.alloc())?, Some(wanted));

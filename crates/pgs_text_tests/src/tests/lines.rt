@@ -39,6 +39,7 @@ fn lines(rt: HostRuntime) -> Result<(), Fail> {
         b"apply 0 1".as_slice(),
         b"tell 0 1".as_slice(),
         b"sweep 0 deep".as_slice(),
+        b"sweep 0 shallow".as_slice(),
         b"end".as_slice(),
     ];
     for line in good {

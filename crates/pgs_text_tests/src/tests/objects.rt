@@ -1,5 +1,5 @@
 use super::printing::says;
-use pgs_lines::{Basic, Context, Damage, Done, Line, Object, Snap, Step, line_in};
+use pgs_lines::{Basic, Context, Damage, DamageAnswer, Done, Line, Object, Snap, Step, line_in};
 use pgs_request::{Op, Version, WriteAnswer};
 use std::alloc::{AllocError, Global};
 use std::test::Fail;
@@ -25,14 +25,16 @@ fn written(alloc: Global, object: &Object, context: &Context, op: &Op) -> Result
 }
 
 // What is done where a copy on the OSD 5 changes.
-fn damaged(object: &Object, snap: Snap, damage: Damage) -> Result<Done, AllocError> {
+fn damaged(object: &Object, snap: Snap, damage: &Damage) -> Result<Done, AllocError> {
     let object = object.clone()?;
+    let damage = damage.clone()?;
     Ok(Done::Damage {
         group: 0,
         osd: 5,
         object,
         snap,
         damage,
+        answer: DamageAnswer::Damaged,
     })
 }
 
@@ -54,7 +56,7 @@ fn is_done(alloc: Global, basic: &Basic, wanted: &[u8]) -> Result<bool, AllocErr
             damage,
             ..
         } => {
-            let done = damaged(object, *snap, *damage)?;
+            let done = damaged(object, *snap, damage)?;
             says(alloc, done, wanted)
         }
         _ => Ok(false),
@@ -164,6 +166,49 @@ fn operations_are_printed_as_read(rt: HostRuntime) -> Result<(), Fail> {
     ];
     for (line, wanted) in rows {
         assert!(rt; is_printed(rt.alloc(), line, wanted)?);
+    }
+    Ok(())
+}
+
+// Whether a damage with these last words is read, and is printed with the same words once it is done.
+fn is_damage(alloc: Global, words: &[u8]) -> Result<bool, AllocError> {
+    let mut line = Vec::new(alloc);
+    line.extend_from_slice(b"damage 0 5 - - a head ")?;
+    line.extend_from_slice(words)?;
+    let mut wanted = Vec::new(alloc);
+    wanted.extend_from_slice(line.as_slice())?;
+    wanted.extend_from_slice(b" : damaged")?;
+    is_printed(alloc, line.as_slice(), wanted.as_slice())
+}
+
+#[test]
+fn damages_are_printed_as_read(rt: HostRuntime) -> Result<(), Fail> {
+    let good = [
+        b"lose".as_slice(),
+        b"flip 4294967295 255".as_slice(),
+        b"cut 0".as_slice(),
+        b"data hex:00ff".as_slice(),
+        b"attr _ text:".as_slice(),
+        b"rmattr snapset".as_slice(),
+        b"omap - fill:3:0a".as_slice(),
+        b"rmomap head".as_slice(),
+        b"header text:x:y".as_slice(),
+    ];
+    for words in good {
+        assert!(rt; is_damage(rt.alloc(), words)?);
+    }
+    let bad = [
+        b"lose 1".as_slice(),
+        b"cut".as_slice(),
+        b"data 1 text:a".as_slice(),
+        b"attr text:a".as_slice(),
+        b"rmattr".as_slice(),
+        b"omap a".as_slice(),
+        b"header hex:0".as_slice(),
+        b"remove".as_slice(),
+    ];
+    for words in bad {
+        assert!(rt; !is_damage(rt.alloc(), words)?);
     }
     Ok(())
 }

@@ -1,6 +1,6 @@
 use super::printing::{object, says};
 use pgs_bytes::Bytes;
-use pgs_lines::{ApplyAnswer, Damage, Done, Snap};
+use pgs_lines::{ApplyAnswer, Damage, DamageAnswer, Done, Snap};
 use pgs_request::{
     CollectAnswer, Declined, Op, Payload, Refusal, SnapContext, Snaps, Version, WriteAnswer,
 };
@@ -197,7 +197,14 @@ fn others(rt: HostRuntime) -> Result<(), Fail> {
         object: object(alloc, b":")?,
         snap: Snap::Head,
         damage: Damage::Flip { at: 9, xor: 255 },
+        answer: DamageAnswer::ShardFull { bytes: 67_108_865 },
     };
-    assert!(rt; says(alloc, done, b"damage 0 5 - - : head flip 9 255 : damaged")?);
+    assert!(rt;
+        says(
+            alloc,
+            done,
+            b"damage 0 5 - - : head flip 9 255 : shard-full 67108865"
+        )?
+    );
     Ok(())
 }

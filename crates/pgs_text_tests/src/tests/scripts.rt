@@ -149,7 +149,7 @@ fn with_snaps(alloc: Global, count: u32) -> Result<String, AllocError> {
 }
 
 #[test]
-fn limits_of_writes(rt: HostRuntime) -> Result<(), Fail> {
+fn limits_of_steps(rt: HostRuntime) -> Result<(), Fail> {
     let alloc = rt.alloc();
     let most = with_snaps(alloc, 64)?;
     assert_eq!(rt; most.as_str(), "Steps 1");
@@ -182,6 +182,26 @@ fn limits_of_writes(rt: HostRuntime) -> Result<(), Fail> {
         ),
         (b"damage 0 0 - - a 1 flip 0 1\nend\n".as_slice(), "Steps 1"),
         (b"damage 0 0 - - a 0 flip 0 1\n".as_slice(), "BadLine 6"),
+        (
+            b"damage 0 0 - - a head data fill:4194304:00\ndamage 0 0 - - a head header fill:65536:00\nend\n".as_slice(),
+            "Steps 2",
+        ),
+        (
+            b"damage 0 0 - - a head data fill:4194305:00\n".as_slice(),
+            "Limit 6",
+        ),
+        (
+            b"damage 0 0 - - a head attr snapset fill:65537:00\n".as_slice(),
+            "Limit 6",
+        ),
+        (
+            b"damage 0 0 - - a head omap a fill:65537:00\n".as_slice(),
+            "Limit 6",
+        ),
+        (
+            b"damage 0 0 - - a head header fill:65537:00\n".as_slice(),
+            "Limit 6",
+        ),
     ];
     for (rest, wanted) in rows {
         let answer = followed(alloc, rest)?;

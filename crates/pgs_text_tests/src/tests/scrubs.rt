@@ -8,18 +8,20 @@ use std::test::Fail;
 fn begins(rt: HostRuntime) -> Result<(), Fail> {
     let rows = [
         (
+            Kind::Deep,
             BeginAnswer::Began { serial: 1 },
             b"begin 0 deep : began 0.1".as_slice(),
         ),
         (
+            Kind::Shallow,
             BeginAnswer::Busy { serial: 12 },
-            b"begin 0 deep : busy 0.12".as_slice(),
+            b"begin 0 shallow : busy 0.12".as_slice(),
         ),
     ];
-    for (answer, wanted) in rows {
+    for (kind, answer, wanted) in rows {
         let done = Done::Begin {
             group: 0,
-            kind: Kind::Deep,
+            kind,
             answer,
         };
         assert!(rt; says(rt.alloc(), done, wanted)?);

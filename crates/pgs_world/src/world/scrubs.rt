@@ -91,7 +91,10 @@ impl World {
         ensures in_range { IfOk result (λ m. AreInRange m.range m.entries) }
     {
         let tables = Tables::make(self.alloc)?;
-        let entries = self.shards.entries(self.alloc, &tables, osd, &chunk.range)?;
+        let deep = self.group.is_deep();
+        let entries = self
+            .shards
+            .entries(self.alloc, &tables, osd, &chunk.range, deep)?;
         Ok(ScrubMap {
             osd,
             serial: chunk.serial,
@@ -146,10 +149,10 @@ impl World {
     {
         self.done.reserve(1)?;
         let chunk = self.group.last_chunk();
-        let answer = self.group.close(chunk)?;
+        let told = self.group.close(chunk)?;
         self.done.push_reserved(Done::Close {
             group,
-            answer: close_said(chunk, answer),
+            answer: close_said(chunk, told),
         });
         Ok(())
     }

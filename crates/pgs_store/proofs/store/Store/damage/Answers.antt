@@ -1,7 +1,4 @@
-use Rattle.std.proofs.Common.{rules, ap}
-use Rattle.std.specs.Ordering.{nat_cmp}
-use Rattle.std.specs.Map.{lookup}
-use Rattle.std.specs.BTreeMap.{is_at}
+use Rattle.std.proofs.Common.{rules}
 use Rattle.pgs_copy.specs.Copies.{after_damage}
 use Rattle.pgs_store.proofs.Puts.{changed_seen, unchanged_seen, on_err}
 use Rattle.pgs_store.proofs.store.Store.damage.Goals as goal
@@ -10,9 +7,9 @@ pub returns-in_err-apply_damage-clause-err : goal.returns-in_err-apply_damage-cl
 returns-in_err-apply_damage-clause-err c =
     on_err c.from_residual.result _
     (unchanged_seen c.args.self.now.families (c.get_mut.follows.lender c.apply_damage.new.copies) c.args.family.now c.apply_damage.new.copies c.in-Some.copies.now
-    (search rules) (search rules) (λ q. ap (lookup (is_at (nat_cmp q))) c.in_err-apply_damage.ensures.err))
+    (search rules) (search rules) c.in_err-apply_damage.ensures.err)
 
-pub returns-in_ok-apply_damage-clause-ok : goal.returns-in_ok-apply_damage-clause-ok
-returns-in_ok-apply_damage-clause-ok c =
+pub returns-in-Some-clause-ok : goal.returns-in-Some-clause-ok
+returns-in-Some-clause-ok c =
     changed_seen c.args.self.now.families (c.get_mut.follows.lender c.apply_damage.new.copies) c.args.family.now c.apply_damage.new.copies c.in-Some.copies.now
     (after_damage c.args.snap c.args.damage.now) (search rules) (search rules) c.in_ok-apply_damage.ensures.ok

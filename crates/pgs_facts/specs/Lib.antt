@@ -1,0 +1,2 @@
+-- What a copy tells of itself.
+pub mod Facts

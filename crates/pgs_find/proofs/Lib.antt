@@ -1,0 +1,5 @@
+-- Sets of names by their bits.
+pub mod Bits
+pub mod ShardLaws
+pub mod ObjectLaws
+pub mod SnapLaws

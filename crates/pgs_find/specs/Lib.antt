@@ -1,0 +1,4 @@
+-- The names of what a scrub finds.
+pub mod ShardNames
+pub mod ObjectNames
+pub mod SnapNames

@@ -1,0 +1,5 @@
+-- Lists by position that are cut at a range.
+pub mod Lists
+pub mod Ranges
+pub mod Moves
+pub mod Alone

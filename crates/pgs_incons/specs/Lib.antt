@@ -1,0 +1,3 @@
+-- What a scrub found.
+pub mod Found
+pub mod Kept

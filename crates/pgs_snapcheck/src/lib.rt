@@ -1,0 +1,14 @@
+//! What is wrong with the snapshots of objects: heads and clones of one family, held against the head's snapset.
+#![tactic(auto)]
+
+mod checking;
+mod cutting;
+mod listing;
+mod looking;
+mod noting;
+#[cfg(test)]
+mod tests;
+mod view;
+
+pub use checking::check;
+pub use view::View;
