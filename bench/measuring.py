@@ -59,6 +59,28 @@ def built_program():
     return os.path.join(TOP, 'crates', 'pgs', 'out', 'pgs')
 
 
+def built_crate(name, words):
+    """The program of a crate, which is proved and built first where that is needed, and then run once with these words."""
+    folder = os.path.join(TOP, 'crates', name)
+    subprocess.run(['rt', 'run', '--'] + words, cwd=folder, stdout=subprocess.DEVNULL, check=True)
+    return os.path.join(folder, 'out', name)
+
+
+def least_in_turns(commands, runs, folder):
+    """The least times of some commands, each the words and the file that it reads. They take turns."""
+    taken = os.path.join(folder, 'out')
+    rounds = [[timed(words, given, taken) for words, given in commands] for _ in range(runs)]
+    return [min(times) for times in zip(*rounds)]
+
+
+def output_of(words, given, folder):
+    """What a command writes."""
+    taken = os.path.join(folder, 'out')
+    timed(words, given, taken)
+    with open(taken, 'rb') as out:
+        return out.read()
+
+
 def least_times(program, scripts, runs):
     """The least times of the program and of the baseline on each script. The scripts take turns."""
     with tempfile.TemporaryDirectory() as folder:
@@ -85,6 +107,11 @@ def measure(numbers, script, what):
         [(time, plain)] = least_times(program, [script(number)], RUNS)
         times.append(time)
         print('%d %s: %.3f s, baseline %.3f s, ratio %.2f' % (number, what, time, plain, time / plain))
+    end_by_growth(numbers, times)
+
+
+def end_by_growth(numbers, times):
+    """Prints how the time grew with so many things, and ends with status 1 where the last growth is too much."""
     growth = [after / before for before, after in zip(times, times[1:])]
     for at, ratio in enumerate(growth):
         print('time(%d) / time(%d): %.2f' % (numbers[at + 1], numbers[at], ratio))

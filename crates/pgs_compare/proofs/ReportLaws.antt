@@ -1,7 +1,8 @@
 -- Positions are compared one after another, from the least on.
-use Rattle.std.proofs.Common.{◌≡◌, ℕ, suc, ◌<◌, List, [], ◌∷◌, ◌++◌, map, length, append_assoc, Option, Some, None, refl, sym, ap, ◌∙◌, arith}
+use Rattle.std.proofs.Common.{◌≡◌, ℕ, suc, ◌<◌, Bool, true, false, subst, List, [], ◌∷◌, ◌++◌, map, length, append_assoc, Option, Some, None, refl, sym, ap, ◌∙◌, arith}
 use Rattle.std.specs.List.{filter_map, cons_option, AllByRecursion}
 use Rattle.std.specs.List.Sorted.{IsStrictlySortedBy}
+use Rattle.std.specs.Bool.{then_some}
 use Rattle.std.specs.Option.{option_to_list}
 use Rattle.std.specs.declared.cmp.Ordering.TheVariants.{Less}
 use Rattle.pgs_name.specs.Positions.{position_cmp}
@@ -11,9 +12,15 @@ use Rattle.pgs_chunk.specs.Listings.{placed}
 use Rattle.pgs_chunk.proofs.Members.{placed_ascends}
 use Rattle.pgs_map.specs.declared.entry.Entry.{Entry}
 use Rattle.pgs_map.specs.declared.scrub_map.ScrubMap.{ScrubMap}
-use Rattle.pgs_snapcheck.specs.Check.{AreAscending}
+use Rattle.pgs_snapcheck.specs.Check.{AreAscending, AreFoundAscending}
 use Rattle.pgs_snapcheck.specs.declared.view.View.{View}
-use Rattle.pgs_compare.specs.Report.{with_entries, with_maps, positions_of}
+use Rattle.pgs_snapcheck.proofs.Order.{found_ascends}
+use Rattle.pgs_incons.specs.Found.{finding_id, Ascends as Ascending}
+use Rattle.pgs_incons.specs.Kept.{AreOrdered}
+use Rattle.pgs_incons.specs.declared.finding.Finding.{Finding as Found}
+use Rattle.pgs_compare.specs.Finding.{finding, compared, has_error}
+use Rattle.pgs_compare.specs.Report.{with_entries, with_maps, positions_of, entries_at, view_of, report}
+use Rattle.pgs_compare.specs.declared.report.Report.{Report}
 use Rattle.pgs_compare.proofs.Turns.{moved, ended}
 
 -- ---- the positions ascend
@@ -70,3 +77,43 @@ found_all f ids made all none h = ended made (filter_map f ids) all (ap (filter_
 
 pub views_all : (view : ObjectId → View) (ids : List ObjectId) (made all : List View) → ids ≡ [] → made ++ map view ids ≡ all → made ≡ all
 views_all view ids made all none h = ended made (map view ids) all (ap (map view) none) h
+
+-- ---- a report stands by position
+
+kept_all : (P : Found → Type 0) (b : Bool) (x : Found) (xs : List Found) → P x → AllByRecursion P xs → AllByRecursion P (cons_option (then_some b x) xs)
+kept_all P true x xs h k = (h, k)
+kept_all P false x xs h k = k
+
+kept_up : (b : Bool) (x : Found) (xs : List Found) → AllByRecursion (λ f. position_cmp x.id f.id ≡ Less) xs → Ascending finding_id xs
+    → Ascending finding_id (cons_option (then_some b x) xs)
+unfolding IsStrictlySortedBy
+kept_up true x xs h k = (h, k)
+kept_up false x xs h k = k
+
+module _ (acting : List ℕ) (version : ℕ) (maps : List ScrubMap) where
+  abbrev at : ObjectId → Found
+  at id = compared acting version id (entries_at maps id)
+
+  abbrev found_at : List ObjectId → List Found
+  found_at ids = filter_map (λ id. finding acting version id (entries_at maps id)) ids
+
+  found_above : (a : ObjectId) (ids : List ObjectId) → AllByRecursion (λ b. position_cmp a b ≡ Less) ids
+      → AllByRecursion (λ f. position_cmp a f.id ≡ Less) (found_at ids)
+  found_above a [] h = tt
+  found_above a (b ∷ ids) h = kept_all (λ f. position_cmp a f.id ≡ Less) (has_error (at b)) (at b) (found_at ids) h.0 (found_above a ids h.1)
+
+  found_up : (ids : List ObjectId) → Ascends ids → Ascending finding_id (found_at ids)
+  unfolding IsStrictlySortedBy
+  found_up [] h = tt
+  found_up (a ∷ ids) h = kept_up (has_error (at a)) (at a) (found_at ids) (found_above a ids h.0) (found_up ids h.1)
+
+  ordered : AreOrdered (report acting version maps).found (report acting version maps).snaps
+  ordered = record {
+    found_ascend = found_up (positions_of maps) (positions_up maps);
+    snaps_ascend =
+        found_ascends (map (λ id. view_of id (entries_at maps id)) (positions_of maps))
+        (views_up (λ id. view_of id (entries_at maps id)) (λ id. refl) (positions_of maps) (positions_up maps));
+  }
+
+pub report_ordered : (acting : List ℕ) (version : ℕ) (maps : List ScrubMap) (r : Report) → r ≡ report acting version maps → AreOrdered r.found r.snaps
+report_ordered acting version maps r e = subst (λ x. AreOrdered x.found x.snaps) (sym e) (ordered acting version maps)

@@ -3,6 +3,7 @@ ghost use Rattle.std.specs.Option.{option_to_list};
 ghost use Rattle.pgs_compare.specs.Finding.{finding as finding_of};
 ghost use Rattle.pgs_compare.specs.Parts as parts;
 ghost use Rattle.pgs_compare.specs.Report as defined;
+ghost use Rattle.pgs_incons.specs.Kept.{AreOrdered};
 
 use crate::finding::finding;
 use crate::judging::{entries_at, facts_seen, judge};
@@ -28,6 +29,7 @@ pub struct Report {
 impl Report {
     /// What is found at the positions of some maps, one map for each acting OSD, the primary's first: each position that any map has and
     /// of which a name holds, also where the primary's has none; and what is wrong with the snapshots.
+    #[tactic(auto, using(crate::proofs::ReportLaws::report_ordered))]
     pub fn of(
         alloc: Global,
         acting: &[u32],
@@ -35,18 +37,31 @@ impl Report {
         maps: &[&ScrubMap],
     ) -> Result<Report, AllocError>
         requires { defined.AreOrdered (parts.maps_seen maps.now) }
-        ensures { IfOk result (λ r. r ≡ defined.report acting.now version (parts.maps_seen maps.now)) }
+        ensures report { IfOk result (λ r. r ≡ defined.report acting.now version (parts.maps_seen maps.now)) }
+        ensures ordered { IfOk result (λ r. AreOrdered r.found r.snaps) }
     {
-        let mut ids = positions(alloc, maps)?;
-        let mut found = Items::new(alloc);
-        let mut views = Vec::new(alloc);
-        while let Some(id) = ids.pop_first() {
-            let view = compare(alloc, acting, version, maps, id, &mut found)?;
-            views.push(view)?;
-        }
-        let snaps = check(alloc, views.as_slice())?;
-        Ok(Report { found, snaps })
+        compare_all(alloc, acting, version, maps)
     }
+}
+
+fn compare_all(
+    alloc: Global,
+    acting: &[u32],
+    version: u64,
+    maps: &[&ScrubMap],
+) -> Result<Report, AllocError>
+    requires { defined.AreOrdered (parts.maps_seen maps.now) }
+    ensures { IfOk result (λ r. r ≡ defined.report acting.now version (parts.maps_seen maps.now)) }
+{
+    let mut ids = positions(alloc, maps)?;
+    let mut found = Items::new(alloc);
+    let mut views = Vec::new(alloc);
+    while let Some(id) = ids.pop_first() {
+        let view = compare(alloc, acting, version, maps, id, &mut found)?;
+        views.push(view)?;
+    }
+    let snaps = check(alloc, views.as_slice())?;
+    Ok(Report { found, snaps })
 }
 
 // Adds what is found of one position, and gives its view.

@@ -3,8 +3,6 @@
 
 mod copy_facts;
 mod infos;
-#[cfg(test)]
-mod tests;
 
 pub use copy_facts::CopyFacts;
 pub use infos::has_other_size;

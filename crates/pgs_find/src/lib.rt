@@ -10,8 +10,6 @@ mod snap_error;
 mod snap_errors;
 mod snap_finding;
 mod table;
-#[cfg(test)]
-mod tests;
 
 pub use object_error::{ObjectError, object_rows};
 pub use object_errors::ObjectErrors;

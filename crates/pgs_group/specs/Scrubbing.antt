@@ -2,11 +2,20 @@
 use Rattle.std.specs.Prelude.{List, None, if◌then◌else◌}
 use Rattle.pgs_history.specs.Scrubs.{begun, running, opened, open_chunk, start, end_of, last_kind}
 use Rattle.pgs_history.specs.Answers.{is_last}
+use Rattle.pgs_history.specs.Findings.{findings}
 use Rattle.pgs_history.specs.declared.event.Event.{Event}
 use Rattle.pgs_group.specs.declared.scrubbing.Scrubbing.{Scrubbing}
 
 abbrev pub scrubbing : List Event → Scrubbing
-scrubbing past = record { begun = begun past; opened = opened past; running = running past; open_chunk = open_chunk past; start = start past; kind = last_kind past }
+scrubbing past = record {
+  begun = begun past;
+  opened = opened past;
+  running = running past;
+  open_chunk = open_chunk past;
+  start = start past;
+  kind = last_kind past;
+  findings = findings past;
+}
 
 -- after the open chunk, if there is one, was closed
 abbrev pub closed : Scrubbing → Scrubbing

@@ -6,7 +6,8 @@ ghost use Rattle.pgs_compare.specs.Parts.{maps_seen};
 ghost use Rattle.pgs_compare.specs.Report as defined;
 ghost use Rattle.pgs_compare.specs.Report.{AreOrdered as AreMapsOrdered};
 ghost use Rattle.pgs_history.specs.Answers.{maps_of};
-ghost use Rattle.pgs_history.specs.Chunks.{AreOrdered};
+ghost use Rattle.pgs_history.specs.Chunks.{AreOrdered as AreTakenOrdered};
+ghost use Rattle.pgs_incons.specs.Kept.{AreOrdered};
 ghost use Rattle.pgs_history.specs.Scrubs.{taken as taken_by};
 
 use crate::taken::taken;
@@ -23,8 +24,9 @@ pub fn compare(
     chunk: u64,
     osds: &[u32],
 ) -> Result<Report, AllocError>
-    requires { AreOrdered (reverse events.now) }
-    ensures { IfOk result (λ r. r ≡ defined.report osds.now version (maps_of (reverse events.now) chunk osds.now)) }
+    requires { AreTakenOrdered (reverse events.now) }
+    ensures report { IfOk result (λ r. r ≡ defined.report osds.now version (maps_of (reverse events.now) chunk osds.now)) }
+    ensures ordered { IfOk result (λ r. AreOrdered r.found r.snaps) }
 {
     let maps = taken_maps(alloc, events, chunk, osds)?;
     Report::of(alloc, osds, version, maps.as_slice())
@@ -38,7 +40,7 @@ fn taken_maps<'a>(
     chunk: u64,
     osds: &[u32],
 ) -> Result<Vec<&'a ScrubMap>, AllocError>
-    requires { AreOrdered (reverse events.now) }
+    requires { AreTakenOrdered (reverse events.now) }
     ensures maps { IfOk result (λ maps. maps_seen maps.items ≡ maps_of (reverse events.now) chunk osds.now) }
     ensures ordered { IfOk result (λ maps. AreMapsOrdered (maps_seen maps.items)) }
 {
@@ -54,7 +56,7 @@ fn taken_maps<'a>(
 // A map that was taken, whose entries are in order.
 #[tactic(auto, using(crate::proofs::Maps::taken_ascends))]
 fn taken_map(events: &[Event], chunk: u64, osd: u32) -> Option<&ScrubMap>
-    requires { AreOrdered (reverse events.now) }
+    requires { AreTakenOrdered (reverse events.now) }
     ensures taken { option_copied result ≡ taken_by (reverse events.now) chunk osd }
     ensures ascends { IfSome result (λ m. AreAscending m.now.entries) }
 {

@@ -4,6 +4,7 @@ ghost use Rattle.std.specs.Option.{option_copied};
 ghost use Rattle.pgs_history.specs.Legal.{IsLegal};
 ghost use Rattle.pgs_history.specs.Scrubs.{running, opened, open_chunk};
 ghost use Rattle.pgs_history.specs.Chunks.{AreFated, AreTiled};
+ghost use Rattle.pgs_history.specs.Findings.{findings};
 ghost use Rattle.pgs_history.specs.After.{after_submit, after_collect, after_pull, after_tell};
 ghost use Rattle.pgs_group.specs.Steps.{pull_answer, answer_of, after, IsProper};
 
@@ -16,6 +17,7 @@ use crate::step::{Answer, Step};
 use crate::weighed::Weighed;
 use crate::weighing::weigh;
 use pgs_history::{Chunk, Event, Made};
+use pgs_incons::Findings;
 use pgs_op::{CleanStore, Write};
 use pgs_op_log::GroupLog;
 use pgs_range::Bound;
@@ -75,6 +77,7 @@ impl Group {
                 open_chunk: None,
                 start: Bound::Min,
                 kind: None,
+                findings: Findings::new(alloc),
             },
         }
     }
@@ -286,6 +289,13 @@ impl Group {
         ensures fates { IsLegal self.now.made self.now.past → AreFated self.now.past }
     {
         self.scrubs.open_chunk.as_ref()
+    }
+
+    /// What is kept of all that its scrubs found: of each family what the chunk found that had it and was closed last.
+    pub fn findings(&self) -> &Findings
+        ensures { result.now ≡ findings self.now.past }
+    {
+        &self.scrubs.findings
     }
 
     /// Its events, the oldest first. The closed chunks of each scrub lie in a row from the least bound on, and those of one

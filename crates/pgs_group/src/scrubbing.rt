@@ -1,12 +1,17 @@
-ghost use Rattle.std.specs.Prelude.{◌≡◌, ◌+◌, ◌<◌, ◌^◌, Some};
+ghost use Rattle.std.specs.Prelude.{◌≡◌, ◌+◌, ◌<◌, ◌^◌, Some, OnOk, OnErr};
 ghost use Rattle.pgs_history.specs.Scrubs.{has_number, is_deep};
 ghost use Rattle.pgs_history.specs.Answers.{is_greatest, is_last, taken_by, version_of};
+ghost use Rattle.pgs_history.specs.Findings.{with_report};
+ghost use Rattle.pgs_incons.specs.Kept.{AreOrdered};
 ghost use Rattle.pgs_range.specs.declared.bound.Bound.TheVariants.{Min};
 ghost use Rattle.pgs_group.specs.Scrubbing.{closed};
 
 use pgs_chunk::Kind;
+use pgs_compare::Report;
 use pgs_history::{Chunk, TakeAnswer};
+use pgs_incons::Findings;
 use pgs_range::{Bound, FamilyRange};
+use std::alloc::AllocError;
 
 /// Where the scrubs of a group are.
 #[derive(Drop)]
@@ -23,6 +28,8 @@ pub struct Scrubbing {
     pub start: Bound,
     /// The kind of the scrub that began last.
     pub kind: Option<Kind>,
+    /// What is kept of all that was found.
+    pub findings: Findings,
 }
 
 impl Scrubbing {
@@ -90,6 +97,22 @@ impl Scrubbing {
                 chunk_now: Some(open.number),
             },
             None => TakeAnswer::Stale { chunk_now: None },
+        }
+    }
+
+    /// What was found of the open chunk's families takes the place of what was kept of them.
+    pub fn keep(&mut self, report: &Report) -> Result<(), AllocError>
+        requires ordered { AreOrdered report.now.found report.now.snaps }
+        ensures ok { OnOk result (self.new ≡ record self.old { findings = with_report self.old.open_chunk report.now self.old.findings }) }
+        ensures err { OnErr result (self.new ≡ self.old) }
+    {
+        match &self.open_chunk {
+            Some(chunk) => self.findings.keep(
+                &chunk.range,
+                report.found.as_slice(),
+                report.snaps.as_slice(),
+            ),
+            None => Ok(()),
         }
     }
 

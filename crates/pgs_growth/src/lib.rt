@@ -8,6 +8,3 @@ mod parts;
 
 pub use edits::growth;
 pub use growths::Growth;
-
-#[cfg(test)]
-mod tests;

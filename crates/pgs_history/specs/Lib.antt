@@ -4,6 +4,7 @@ pub mod Members
 pub mod Scrubs
 pub mod Answers
 pub mod Chunks
+pub mod Findings
 pub mod After
 pub mod Legal
 pub mod Facts

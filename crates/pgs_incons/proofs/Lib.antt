@@ -2,4 +2,5 @@
 pub mod Lists
 pub mod Ranges
 pub mod Moves
-pub mod Alone
+pub mod Points
+pub mod Turns

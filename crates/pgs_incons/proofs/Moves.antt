@@ -1,6 +1,6 @@
 -- A list whose parts are turned about.
 use Rattle.std.proofs.Common.{ℕ, ◌≡◌, ◌≤◌, ◌+◌, ◌-◌, List, ◌++◌, length, take, drop, sym, ap, ◌∙◌, arith, append_assoc}
-use Rattle.std.proofs.lemmas.List.{take-append-drop, length-append, length-take-le, length-drop}
+use Rattle.std.proofs.lemmas.List.{take-append-drop, length-append, length-take-le, length-drop, take-take, drop-drop}
 use Rattle.std.proofs.Math.Seq.{take-append_seam, drop-append_seam}
 
 seam_take : {X : Type 0} (n : ℕ) (l xs ys : List X) → l ≡ xs ++ ys → n ≡ length xs → take n l ≡ xs
@@ -61,3 +61,25 @@ moved from to all left l one two three p q r o k w h =
     let ms_long : length ms ≡ to - from = length-take-le (to - from) d (omega arith) in
     let ts_long : length ts ≡ all - to = length-take-le (all - to) b (omega arith) in
     parts_moved from to all left l one two three xs ms ts ns e (sym xs_long) (omega arith) (omega arith) o k w h
+
+-- what stands within a cut swapped with as much behind the cut list, which is cut off
+pub exchanged : {X : Type 0} (from to all : ℕ) (l two three : List X) → from ≤ to → to ≤ all → all ≤ length l → length l ≡ all + (to - from)
+    → two ≡ (take from (take all l) ++ (drop all l ++ drop (to - from) (drop from (take all l)))) ++ take (to - from) (drop from (take all l))
+    → three ≡ take all two → three ≡ take from l ++ (drop all l ++ drop to (take all l))
+exchanged from to all l two three p q r s t e =
+    let f = take all l in
+    let gone = to - from in
+    let rest = drop gone (drop from f) in
+    let made = take from f ++ (drop all l ++ rest) in
+    let f_long : length f ≡ all = length-take-le all l r in
+    let front_long : length (take from f) ≡ from = length-take-le from f (omega arith) in
+    let back_long : length (drop all l) ≡ length l - all = length-drop all l in
+    let from_long : length (drop from f) ≡ length f - from = length-drop from f in
+    let rest_long : length rest ≡ length (drop from f) - gone = length-drop gone (drop from f) in
+    let tail_long : length (drop all l ++ rest) ≡ length (drop all l) + length rest = length-append (drop all l) rest in
+    let made_long : length made ≡ length (take from f) + length (drop all l ++ rest) = length-append (take from f) (drop all l ++ rest) in
+    let whole : all ≡ length made = omega arith in
+    let front : take from f ≡ take from l = take-take from all l (omega arith) in
+    let upto : from + gone ≡ to = omega arith in
+    let back : rest ≡ drop to f = drop-drop gone from f ∙ ap (λ n. drop n f) upto in
+    e ∙ seam_take all two made (take gone (drop from f)) t whole ∙ (λ i. front i ++ (drop all l ++ back i))

@@ -108,6 +108,13 @@ module _ {A : Type 0} (id_of : A → ObjectId) (range : FamilyRange) where
     falls U up xs h.1,
   )
 
+  -- findings below a range stand in front, and so do those that aren't behind it
+  pub below_falls : (xs : List A) → Ascends id_of xs → Falls below xs
+  below_falls xs h = falls (is_at_most range.from) (up_start range) xs h
+
+  pub ahead_falls : (xs : List A) → Ascends id_of xs → Falls (λ x. not (behind x)) xs
+  ahead_falls xs h = falls (is_behind range) (up_behind range) xs h
+
   cross : (U : Family → Bool) → Up U → (xs ys : List A) → AllByRecursion (λ x. U (fam x) ≡ false) xs → AllByRecursion (λ y. U (fam y) ≡ true) ys
       → AllByRecursion (λ x. AllByRecursion (λ y. position_cmp (id_of x) (id_of y) ≡ Less) ys) xs
   cross U up [] ys h k = tt

@@ -25,6 +25,10 @@ Ascends id_of xs = IsStrictlySortedBy (λ a b. position_cmp (id_of a) (id_of b))
 abbrev pub AreWithin : {A : Type 0} → (A → ObjectId) → FamilyRange → List A → Type 0
 AreWithin id_of range xs = AllByRecursion (λ x. in_range range (id_of x).family ≡ true) xs
 
+-- those that are of families of a range
+abbrev pub of_range : {A : Type 0} → (A → ObjectId) → FamilyRange → List A → List A
+of_range id_of range xs = filter (λ x. in_range range (id_of x).family) xs
+
 -- a family is below a range's start
 abbrev pub is_below : FamilyRange → Family → Bool
 is_below range f = not (is_at_most range.from f)

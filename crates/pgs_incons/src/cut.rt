@@ -1,6 +1,6 @@
 ghost use Rattle.std.specs.Prelude.{◌≡◌, not, length};
 ghost use Rattle.std.specs.List.{take_while};
-ghost use Rattle.pgs_incons.specs.Found.{finding_id, snap_id, is_below, is_behind};
+ghost use Rattle.pgs_incons.specs.Found.{Ascends, finding_id, snap_id, is_below, is_behind};
 
 use crate::finding::Finding;
 use pgs_find::SnapFinding;
@@ -21,6 +21,7 @@ pub struct Cut {
 impl Cut {
     /// Where findings of copies are cut.
     pub fn of_findings(range: &FamilyRange, found: &[Finding]) -> Cut
+        requires { Ascends finding_id found.now }
         ensures from { result.from ≡ length (take_while (λ x. is_below range.now (finding_id x).family) found.now) }
         ensures to { result.to ≡ length (take_while (λ x. not (is_behind range.now (finding_id x).family)) found.now) }
         ensures all { result.all ≡ length found.now }
@@ -34,6 +35,7 @@ impl Cut {
 
     /// Where findings of snapshots are cut.
     pub fn of_snaps(range: &FamilyRange, snaps: &[SnapFinding]) -> Cut
+        requires { Ascends snap_id snaps.now }
         ensures from { result.from ≡ length (take_while (λ x. is_below range.now (snap_id x).family) snaps.now) }
         ensures to { result.to ≡ length (take_while (λ x. not (is_behind range.now (snap_id x).family)) snaps.now) }
         ensures all { result.all ≡ length snaps.now }
@@ -46,42 +48,34 @@ impl Cut {
     }
 }
 
-// How many from the front on are below a range.
+// How many from the front on are below a range. The findings stand by position, so halving finds it.
 fn findings_below(range: &FamilyRange, found: &[Finding]) -> usize
+    requires { Ascends finding_id found.now }
     ensures { result ≡ length (take_while (λ x. is_below range.now (finding_id x).family) found.now) }
 {
-    found
-        .iter()
-        .take_while(|finding| is_below(range, &finding.id.family))
-        .count()
+    found.partition_point(|finding| is_below(range, &finding.id.family))
 }
 
 fn snaps_below(range: &FamilyRange, snaps: &[SnapFinding]) -> usize
+    requires { Ascends snap_id snaps.now }
     ensures { result ≡ length (take_while (λ x. is_below range.now (snap_id x).family) snaps.now) }
 {
-    snaps
-        .iter()
-        .take_while(|finding| is_below(range, &finding.id.family))
-        .count()
+    snaps.partition_point(|finding| is_below(range, &finding.id.family))
 }
 
 // How many from the front on aren't behind a range.
 fn findings_ahead(range: &FamilyRange, found: &[Finding]) -> usize
+    requires { Ascends finding_id found.now }
     ensures { result ≡ length (take_while (λ x. not (is_behind range.now (finding_id x).family)) found.now) }
 {
-    found
-        .iter()
-        .take_while(|finding| !is_behind(range, &finding.id.family))
-        .count()
+    found.partition_point(|finding| !is_behind(range, &finding.id.family))
 }
 
 fn snaps_ahead(range: &FamilyRange, snaps: &[SnapFinding]) -> usize
+    requires { Ascends snap_id snaps.now }
     ensures { result ≡ length (take_while (λ x. not (is_behind range.now (snap_id x).family)) snaps.now) }
 {
-    snaps
-        .iter()
-        .take_while(|finding| !is_behind(range, &finding.id.family))
-        .count()
+    snaps.partition_point(|finding| !is_behind(range, &finding.id.family))
 }
 
 fn is_below(range: &FamilyRange, family: &Family) -> bool

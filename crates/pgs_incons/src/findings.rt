@@ -1,11 +1,12 @@
 ghost use Rattle.std.specs.Prelude.{◌≡◌, [], ◌++◌, OnOk, OnErr};
 ghost use Rattle.pgs_find.specs.declared.snap_finding.SnapFinding.{SnapFinding};
 ghost use Rattle.pgs_incons.specs.Found.{Ascends, AreWithin, finding_id, snap_id, replaced, IsReplaced};
-ghost use Rattle.pgs_incons.specs.Kept.{Kept};
+ghost use Rattle.pgs_incons.specs.Kept.{Kept, kept_after};
 
 use crate::cut::Cut;
 use crate::finding::Finding;
 use crate::moving::{in_vec, move_into};
+use crate::within::{found_within, snaps_within};
 use pgs_find::SnapFinding;
 use pgs_range::FamilyRange;
 use sqlite_items::Items;
@@ -54,6 +55,26 @@ impl Findings {
         ensures ascends { Ascends snap_id result.now }
     {
         self.snaps.as_slice()
+    }
+
+    /// Keeps what was found of the families of a range in the place of all that was found of them before. What was found of others isn't
+    /// kept.
+    #[tactic(auto, using(crate::proofs::Turns::kept))]
+    pub fn keep(
+        &mut self,
+        range: &FamilyRange,
+        found: &[Finding],
+        snaps: &[SnapFinding],
+    ) -> Result<(), AllocError>
+        requires found_ascend { Ascends finding_id found.now }
+        requires snaps_ascend { Ascends snap_id snaps.now }
+        ensures ok { OnOk result (self.new ≡ kept_after range.now found.now snaps.now self.old) }
+        ensures err { OnErr result (self.new ≡ self.old) }
+    {
+        let alloc = *self.found.allocator();
+        let found = found_within(alloc, range, found)?;
+        let snaps = snaps_within(alloc, range, snaps)?;
+        self.replace(range, found, snaps)
     }
 
     /// Puts what was found of the families of a range into the place of all that was found of them before. What stays is moved,

@@ -7,8 +7,7 @@ mod finding;
 mod findings;
 mod moving;
 mod shard_finding;
-#[cfg(test)]
-mod tests;
+mod within;
 
 pub use chosen::Chosen;
 pub use finding::Finding;

@@ -4,8 +4,6 @@
 mod choice;
 mod errors;
 mod judged;
-#[cfg(test)]
-mod tests;
 
 pub use choice::choose;
 pub use errors::{are_apart, errors_beside, told};

@@ -6,8 +6,6 @@ mod cutting;
 mod listing;
 mod looking;
 mod noting;
-#[cfg(test)]
-mod tests;
 mod view;
 
 pub use checking::check;

@@ -6,6 +6,7 @@ ghost use Rattle.pgs_history.specs.Scrubs.{running, last_kind, is_deep};
 ghost use Rattle.pgs_history.specs.Answers.{begin_answer, open_answer, take_answer, close_answer, unclosed, found, next_chunk, primary};
 ghost use Rattle.pgs_history.specs.After.{after_begin, after_open, after_take, after_close};
 ghost use Rattle.pgs_history.specs.Legal.{IsLegal};
+ghost use Rattle.pgs_incons.specs.Kept.{AreOrdered};
 ghost use Rattle.pgs_group.specs.Steps.{IsNextChunk, close_told};
 
 use super::Group;
@@ -151,7 +152,8 @@ impl Group {
     // What comparing the maps of a chunk finds.
     #[tactic(auto, using(crate::proofs::Scrubs::compared_so))]
     fn found(&self, chunk: u64) -> Result<Report, AllocError>
-        ensures { IfOk result (λ r. r ≡ found self.now.made self.now.past chunk) }
+        ensures report { IfOk result (λ r. r ≡ found self.now.made self.now.past chunk) }
+        ensures ordered { IfOk result (λ r. AreOrdered r.found r.snaps) }
     {
         let members = self.made.members.as_slice();
         compare(
@@ -163,7 +165,7 @@ impl Group {
         )
     }
 
-    // Closes the chunk that is open, of which no map is missing.
+    // Closes the chunk that is open, of which no map is missing, and keeps what was found.
     fn close_open(&mut self, chunk: u64) -> Result<CloseTold, AllocError>
         requires { unclosed self.old.made self.old.past chunk ≡ None }
         ensures answer { IfOk result (λ told. told ≡ close_told (close_answer self.old.made self.old.past chunk)) }
@@ -172,6 +174,7 @@ impl Group {
     {
         self.events.reserve(1)?;
         let report = self.found(chunk)?;
+        self.scrubs.keep(&report)?;
         let findings = report.found.len() as u64;
         let snaps = report.snaps.len() as u64;
         let completes = self.scrubs.close();

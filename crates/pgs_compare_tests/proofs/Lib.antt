@@ -1,0 +1,3 @@
+-- What the tests' lists are.
+pub mod Ascending
+pub mod Alone

@@ -1,5 +1,0 @@
-//! Each file tests one topic.
-mod listings;
-mod logs;
-mod making;
-mod writes;

@@ -1,3 +1,0 @@
-//! Each file tests one topic.
-mod runs;
-mod settings;

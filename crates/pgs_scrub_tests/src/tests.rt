@@ -1,5 +1,0 @@
-//! Each file tests one topic.
-mod calls;
-mod scrubs;
-mod seen;
-mod steps;

@@ -1,0 +1,5 @@
+//! Each folder tests one layer.
+mod group;
+mod log;
+mod run;
+mod scrub;

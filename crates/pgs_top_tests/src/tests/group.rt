@@ -1,0 +1,5 @@
+//! Groups, the shards of members, and worlds.
+mod groups;
+mod making;
+mod shards;
+mod worlds;

@@ -1,0 +1,5 @@
+//! The scrubs of a group.
+mod calls;
+mod scrubs;
+mod seen;
+mod steps;
