@@ -1,5 +1,5 @@
 -- How what was done is printed.
-use Rattle.std.specs.Prelude.{ℕ, List, [], ◌∷◌, ◌++◌, codes}
+use Rattle.std.specs.Prelude.{ℕ, List, [], ◌∷◌, ◌++◌, Option, Some, None, codes}
 use Rattle.std.specs.List.{join_with_byte}
 use Rattle.std.specs.Fmt.{decimal}
 use Rattle.pgs_request.specs.declared.version.Version.{Version}
@@ -50,13 +50,19 @@ collect_words collects.Unknown = codes "unknown" ∷ []
 collect_words (collects.NotYet osd told) = codes "not-yet" ∷ decimal osd ∷ decimal told ∷ []
 collect_words (collects.Acked version) = codes "acked" ∷ version_word version ∷ []
 
+-- the chunk whose scan or map an item dropped, if it did
+abbrev pub drop_words : Option ℕ → List (List ℕ)
+drop_words None = []
+drop_words (Some chunk) = codes "drops" ∷ decimal chunk ∷ []
+
 abbrev pub apply_words : ApplyAnswer → List (List ℕ)
-apply_words (applies.Applied number) = codes "applied" ∷ decimal number ∷ []
+apply_words (applies.Applied number drops) = codes "applied" ∷ decimal number ∷ drop_words drops
 apply_words (applies.NotYet applied) = codes "not-yet" ∷ decimal applied ∷ []
 apply_words (applies.DeviceFault count) = codes "device-fault" ∷ decimal count ∷ []
 
 abbrev pub damage_words : DamageAnswer → List (List ℕ)
 damage_words damage_answers.Damaged = codes "damaged" ∷ []
+damage_words damage_answers.BeingRead = codes "being-read" ∷ []
 damage_words (damage_answers.ShardFull bytes) = codes "shard-full" ∷ decimal bytes ∷ []
 
 -- ---- lines

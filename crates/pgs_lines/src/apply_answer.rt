@@ -5,6 +5,8 @@ pub enum ApplyAnswer {
     Applied {
         /// The item's number.
         number: u64,
+        /// The chunk whose scan or map it dropped.
+        drops: Option<u64>,
     },
     /// It was sent no further item.
     NotYet {

@@ -1,2 +1,4 @@
 -- Laws of devices.
 pub mod Devices
+pub mod Pages
+pub mod Strides

@@ -9,7 +9,11 @@ abbrev pub device_of : RamMedium → Device
 device_of ram = record {
   stored = stored ram.store;
   faults = ram.faults;
-  writes = record { made = ram.writes; failed = ram.failed_writes };
-  lists = record { made = ram.lists; failed = ram.failed_lists };
+  writes = ram.writes;
+  lists = ram.lists;
+  stats = ram.stats;
+  attrs = ram.attrs;
+  reads = ram.reads;
+  omaps = ram.omaps;
   failing = Some ram.failing;
 }

@@ -5,4 +5,12 @@ pub enum CallKind {
     Write,
     /// The next position of a listing.
     List,
+    /// The size of a copy's data.
+    Stat,
+    /// The attributes of a copy.
+    Attrs,
+    /// A part of a copy's data.
+    Read,
+    /// A page of a copy's omap.
+    Omap,
 }

@@ -1,8 +1,6 @@
--- Laws of histories.
-pub mod Feeds
-pub mod Laws
+-- A shard stays tied to its history.
 pub mod Ties
-pub mod Positions
 pub mod Listings
 pub mod Sizes
 pub mod Sums
+pub mod Steps

@@ -24,13 +24,15 @@ use Rattle.pgs_medium.specs.declared.medium_error.MediumError.{MediumError}
 use Rattle.pgs_medium.specs.declared.medium_error.MediumError.TheVariants as errors
 use Rattle.pgs_medium.specs.declared.call_kind.CallKind.TheVariants as kinds
 use Rattle.pgs_medium.specs.declared.failing_call.FailingCall.{FailingCall}
-use Rattle.pgs_shard.specs.Stores.{stored_by, last_count}
-use Rattle.pgs_shard.specs.Legal.{IsLegal}
+use Rattle.pgs_shard_history.specs.Stores.{stored_by, last_count}
+use Rattle.pgs_shard.specs.Scan.{Scan}
 use Rattle.pgs_shard.specs.State.{IsTied}
-use Rattle.pgs_shard.specs.Listed.{positions, answered, calls_for, IsFailedAfter, IsListedOn}
-use Rattle.pgs_shard.specs.declared.event.Event.{Event}
-use Rattle.pgs_shard.specs.declared.event.Event.TheVariants.{ListFailed}
-use Rattle.pgs_shard.proofs.Positions.{are_positions}
+use Rattle.pgs_shard.proofs.Ties.{rose_from, tied_read}
+use Rattle.pgs_shard_history.specs.Positions.{positions}
+use Rattle.pgs_shard.specs.Listed.{answered, calls_for, IsFailedAfter, IsListedOn}
+use Rattle.pgs_shard_history.specs.declared.event.Event.{Event}
+use Rattle.pgs_shard_history.specs.declared.event.Event.TheVariants.{ListFailed}
+use Rattle.pgs_shard_history.proofs.Positions.{are_positions}
 
 -- the positions that are still ahead
 abbrev pub ahead : List Event → Cursor → List ObjectId
@@ -146,39 +148,32 @@ answered_counts zero device = refl
 answered_counts (suc calls) device = answered_counts calls device
 
 -- the device answered
-pub tied_answered : (calls : ℕ) (old new : Device) (items : List Item) (count : ℕ) (past : List Event) → IsTied old items count past → new ≡ answered calls old → IsTied new items count past
-tied_answered calls old new items count past tied e = record {
-  all_items = tied.all_items;
-  numbered = tied.numbered;
-  count_is = tied.count_is;
-  within = tied.within;
-  holds = ap (λ (d : Device). d.stored) e ∙ answered_stores calls old ∙ tied.holds;
-  counted = omega (arith, tied.counted, ap (λ (d : Device). d.faults) e, answered_counts calls old);
-}
+pub tied_answered : (stride calls : ℕ) (old new : Device) (items : List Item) (count : ℕ) (scan : Scan) (past : List Event) → IsTied stride old items count scan past → new ≡ answered calls old
+    → IsTied stride new items count scan past
+tied_answered stride calls old new items count scan past tied e =
+    tied_read stride old new items count scan past tied (ap (λ (d : Device). d.stored) e ∙ answered_stores calls old)
+    (omega (arith, ap (λ (d : Device). d.faults) e, answered_counts calls old))
+
+due_failed : (stride : ℕ) (old new : Device) (items : List Item) (count faults : ℕ) (scan : Scan) (past : List Event) → IsTied stride old items count scan past → IsFailedAfter old new → faults ≡ new.faults
+    → Rose (last_count past) faults
+due_failed stride old new items count faults scan past tied failed e =
+    subst (λ n. Rose (last_count past) n) (sym e)
+    (rose_from (last_count past) (answered failed.calls old).faults new.faults (omega (arith, tied.counted, answered_counts failed.calls old)) failed.failed.1)
 
 -- the device failed
-pub tied_failed : (old new : Device) (items : List Item) (count faults : ℕ) (past : List Event) → IsTied old items count past → IsFailedAfter old new → faults ≡ new.faults
-    → IsTied new items count (ListFailed faults ∷ past)
-tied_failed old new items count faults past tied failed e = record {
+pub tied_failed : (stride : ℕ) (old new : Device) (items : List Item) (count faults : ℕ) (scan : Scan) (past : List Event) → IsTied stride old items count scan past → IsFailedAfter old new → faults ≡ new.faults
+    → IsTied stride new items count scan (ListFailed faults ∷ past)
+tied_failed stride old new items count faults scan past tied failed e = record {
   all_items = tied.all_items;
   numbered = tied.numbered;
   count_is = tied.count_is;
   within = tied.within;
   holds = ap (λ (d : Device). d.stored) failed.failed.0 ∙ answered_stores failed.calls old ∙ tied.holds;
   counted = omega (arith, e);
+  scan_is = tied.scan_is;
+  legal = (due_failed stride old new items count faults scan past tied failed e, tied.legal);
+  some = tied.some;
 }
-
-rose_from : (last old new : ℕ) → last ≤ old → Rose old new → Rose last new
-rose_from last old new below rose = record {
-  kept = omega (arith, below, rose.kept);
-  more = λ e. rose.more (omega (arith, below, rose.kept, e));
-}
-
-pub due_failed : (old new : Device) (items : List Item) (count faults : ℕ) (past : List Event) → IsTied old items count past → IsFailedAfter old new → faults ≡ new.faults
-    → Rose (last_count past) faults
-due_failed old new items count faults past tied failed e =
-    subst (λ n. Rose (last_count past) n) (sym e)
-    (rose_from (last_count past) (answered failed.calls old).faults new.faults (omega (arith, tied.counted, answered_counts failed.calls old)) failed.failed.1)
 
 failing_of : (old new : Device) (faults calls : ℕ) → new ≡ not_listed faults (answered calls old) → new.failing ≡ old.failing
 failing_of old new faults calls e = ap (λ (d : Device). d.failing) e ∙ answered_fails calls old
@@ -214,7 +209,3 @@ memory_is limit old new e is h = subst (λ x. IsListedOn limit old (Err x) new) 
 
 pub memory_failing : (old new : Device) → (calls : ℕ) × (new ≡ answered calls old) → new.failing ≡ old.failing
 memory_failing old new h = answered_failing h.0 old new h.1
-
--- a failure that is due is legal
-pub legal_failed : (past now before : List Event) (count : ℕ) → Rose (last_count before) count → before ≡ past → now ≡ ListFailed count ∷ past → IsLegal past → IsLegal now
-legal_failed past now before count due same e legal = subst IsLegal (sym e) (subst (λ l. Rose (last_count l) count) same due, legal)

@@ -16,15 +16,15 @@ use Rattle.pgs_copy.specs.declared.damage.Damage.{Damage}
 use Rattle.pgs_copy.specs.declared.damage.Damage.TheVariants as damages
 use Rattle.pgs_copy.specs.declared.obj_copy.ObjCopy.{ObjCopy}
 use Rattle.pgs_store.specs.Stores.{copy_size}
-use Rattle.pgs_shard.specs.Held.{damage_answer, held_after, size_before, size_after}
-use Rattle.pgs_shard.specs.Stores.{stored_by}
-use Rattle.pgs_shard.specs.declared.event.Event.{Event}
-use Rattle.pgs_shard.specs.declared.damage_answer.DamageAnswer.TheVariants.{Damaged, ShardFull}
-use Rattle.pgs_shard.specs.declared.limits.TheConstants.{SHARD_MAX}
+use Rattle.pgs_shard_history.specs.Held.{room_answer, held_after, size_before, size_after}
+use Rattle.pgs_shard_history.specs.Stores.{stored_by}
+use Rattle.pgs_shard_history.specs.declared.event.Event.{Event}
+use Rattle.pgs_shard_history.specs.declared.damage_answer.DamageAnswer.TheVariants.{Damaged, ShardFull}
+use Rattle.pgs_shard_history.specs.declared.limits.TheConstants.{SHARD_MAX}
 
 -- a copy that isn't larger is no reason to refuse damage
 pub not_more : (past : List Event) (family : Family) (snap : ℕ) (damage : Damage) → size_after past family snap damage ≤ size_before past family snap
-    → Damaged ≡ damage_answer past family snap damage
+    → Damaged ≡ room_answer past family snap damage
 not_more past family snap damage h =
     let no : nat_lt (size_before past family snap) (size_after past family snap damage) ≡ false = grind (arith, nat_tests) in
     sym (ap (λ b. cond (b && nat_lt SHARD_MAX (held_after past family snap damage)) (ShardFull (held_after past family snap damage)) Damaged) no)
@@ -62,5 +62,5 @@ shrinks (damages.SetAttr name value) copy h = absurd (true_false h)
 shrinks (damages.SetOmap key value) copy h = absurd (true_false h)
 shrinks (damages.SetHeader bytes) copy h = absurd (true_false h)
 
-pub never_more : (past : List Event) (family : Family) (snap : ℕ) (damage : Damage) → makes_copy damage ≡ false → Damaged ≡ damage_answer past family snap damage
+pub never_more : (past : List Event) (family : Family) (snap : ℕ) (damage : Damage) → makes_copy damage ≡ false → Damaged ≡ room_answer past family snap damage
 never_more past family snap damage h = not_more past family snap damage (shrinks damage (stored_by past family snap) h)

@@ -8,12 +8,12 @@ use Rattle.pgs_range.specs.declared.cursor.Cursor.{Cursor}
 use Rattle.pgs_range.specs.declared.cursor.Cursor.TheVariants.{At, After}
 use Rattle.pgs_chunk.proofs.Members.{next_none, next_some}
 use Rattle.pgs_store.specs.Stores.{Stored, is_stored, copy_size}
-use Rattle.pgs_shard.specs.Listed.{positions}
-use Rattle.pgs_shard.specs.Stores.{stored_by}
-use Rattle.pgs_shard.specs.Held.{bytes_at, held}
-use Rattle.pgs_shard.specs.declared.event.Event.{Event}
+use Rattle.pgs_shard_history.specs.Positions.{positions}
+use Rattle.pgs_shard_history.specs.Stores.{stored_by}
+use Rattle.pgs_shard_history.specs.Held.{bytes_at, held}
+use Rattle.pgs_shard_history.specs.declared.event.Event.{Event}
 use Rattle.pgs_shard.proofs.Listings.{ahead}
-use Rattle.pgs_shard.proofs.Positions.{are_positions}
+use Rattle.pgs_shard_history.proofs.Positions.{are_positions}
 
 -- what was summed so far, and what is still ahead
 abbrev pub IsSummed : List Event → ℕ → Cursor → Type 0

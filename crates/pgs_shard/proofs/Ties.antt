@@ -1,16 +1,89 @@
 -- A shard stays tied to its history.
-use Rattle.std.proofs.Common.{◌≡◌, ℕ, ◌+◌, ◌<◌, ◌≤◌, List, ◌∷◌, ◌++◌, length, reverse, Option, Some, None, Ok, slice_get, refl, sym, ap, subst, ◌∙◌, arith}
+use Rattle.std.proofs.Common.{◌≡◌, ℕ, suc, ◌+◌, ◌<◌, ◌≤◌, ◌&&◌, Bool, true, false, cond, List, [], ◌∷◌, ◌++◌, length, reverse, Option, Some, None, Ok, slice_get, refl, sym, ap, subst, ◌∙◌, arith}
 use Rattle.std.proofs.lemmas.List.{reverse-append, reverse-reverse, length-append, length-reverse}
-use Rattle.pgs_store.specs.Stores.{Stored, affected}
-use Rattle.pgs_medium.specs.Device.{Device}
+use Rattle.pgs_bytes.proofs.Facts.{some_same}
+use Rattle.pgs_cause.specs.Count.{Rose}
+use Rattle.pgs_name.specs.Families.{Family}
+use Rattle.pgs_range.specs.declared.family_range.FamilyRange.{FamilyRange}
+use Rattle.pgs_chunk.specs.declared.ask.Ask.{Ask}
+use Rattle.pgs_copy.specs.declared.damage.Damage.{Damage}
+use Rattle.pgs_store.specs.Stores.{Stored, nothing_stored, affected, harmed}
+use Rattle.pgs_medium.specs.Device.{Device, IsFailed, with_damage}
+use Rattle.pgs_medium.specs.declared.call_kind.CallKind.{CallKind}
+use Rattle.pgs_medium.specs.declared.call_kind.CallKind.TheVariants as kinds
 use Rattle.pgs_medium.specs.declared.item.Item.{Item}
-use Rattle.pgs_shard.specs.Feeds.{AreNext, beyond, fed, item_of}
-use Rattle.pgs_shard.specs.Stores.{after_item, stored_by}
-use Rattle.pgs_shard.specs.State.{IsTied}
+use Rattle.pgs_shard_history.specs.Feeds.{AreNext, AreNumbered, beyond, fed, item_of}
+use Rattle.pgs_shard_history.specs.Held.{damage_answer}
+use Rattle.pgs_shard_history.specs.Laws.{IsLawful}
+use Rattle.pgs_shard_history.specs.Legal.{IsDue, IsLegal}
+use Rattle.pgs_shard_history.specs.Scanning.{Scanning, scanning, unasked, is_newer, after_ask, after_drop, can_drop, touches, chunk_where, drop_of, dropped}
+use Rattle.pgs_shard_history.specs.Stores.{applied, after_item, stored_by, last_count}
+use Rattle.pgs_shard_history.specs.declared.damage_answer.DamageAnswer.{DamageAnswer}
+use Rattle.pgs_shard_history.specs.declared.damage_answer.DamageAnswer.TheVariants as damages
+use Rattle.pgs_shard_history.specs.declared.event.Event.{Event}
+use Rattle.pgs_shard_history.specs.declared.event.Event.TheVariants.{Fed, Applied, DeviceFault, ListFailed, Scanned, Handed, Damaged}
+use Rattle.pgs_shard_history.specs.declared.phase.Phase.{Phase}
+use Rattle.pgs_shard_history.specs.declared.phase.Phase.TheVariants as phases
+use Rattle.pgs_shard_history.proofs.Feeds.{found, numbered_more}
+use Rattle.pgs_shard_history.proofs.Laws.{lawful}
 use Rattle.pgs_shard.specs.Answers.{IsWrittenAt, IsDoneAt}
-use Rattle.pgs_shard.specs.declared.event.Event.{Event}
-use Rattle.pgs_shard.specs.declared.event.Event.TheVariants.{Fed, Applied}
-use Rattle.pgs_shard.proofs.Feeds.{found, numbered_more}
+use Rattle.pgs_shard.specs.Scan.{Scan, scan_of, range_of, cleared, asked, asked_if, is_later, in_ask, drop_in, after_drop_in, HasRoomToHand}
+use Rattle.pgs_shard.specs.State.{IsTied}
+
+pub lawful_now : (stride : ℕ) (device : Device) (items : List Item) (count : ℕ) (scan : Scan) (past : List Event) → IsTied stride device items count scan past → IsLawful past
+lawful_now stride device items count scan past tied = lawful stride past tied.legal
+
+-- ---- room
+
+pub room_some : (phase : Phase) (length capacity : ℕ) → length < capacity → HasRoomToHand phase length capacity
+room_some phases.Waiting length capacity h = tt
+room_some phases.Between length capacity h = tt
+room_some phases.Reading length capacity h = tt
+room_some (phases.Mapped place count) length capacity h = h
+room_some (phases.Failed place count faults) length capacity h = h
+room_some phases.Over length capacity h = tt
+
+pub room_more : (phase : Phase) (length old new : ℕ) → HasRoomToHand phase length old → old ≤ new → HasRoomToHand phase length new
+room_more phases.Waiting length old new h up = tt
+room_more phases.Between length old new h up = tt
+room_more phases.Reading length old new h up = tt
+room_more (phases.Mapped place count) length old new h up = omega (arith, h, up)
+room_more (phases.Failed place count faults) length old new h up = omega (arith, h, up)
+room_more phases.Over length old new h up = tt
+
+pub room_kept : (phase : Phase) (before length old new : ℕ) → HasRoomToHand phase before old → length ≡ before → old ≤ new → HasRoomToHand phase length new
+room_kept phase before length old new h same up = subst (λ n. HasRoomToHand phase n new) (sym same) (room_more phase before old new h up)
+
+-- ---- what asks and items do to what is kept of a scan
+
+asked_kept : (stride : ℕ) (ask : Option Ask) (s : Scanning) → asked_if ask (scan_of stride s) ≡ scan_of stride (after_ask ask s)
+asked_kept stride None s = refl
+asked_kept stride (Some ask) s = by (is_newer ask s.ask)
+  where
+    by : (newer : Bool) → cond newer (record (scan_of stride unasked) { ask = Some ask }) (scan_of stride s) ≡ scan_of stride (cond newer (record unasked { ask = Some ask }) s)
+    by true = refl
+    by false = refl
+
+no_range : (phase : Phase) (ask : Option Ask) → range_of (dropped phase) ask ≡ None
+no_range phases.Waiting ask = refl
+no_range phases.Between ask = refl
+no_range phases.Reading ask = refl
+no_range (phases.Mapped place count) ask = refl
+no_range (phases.Failed place count faults) ask = refl
+no_range phases.Over ask = refl
+
+dropped_kept : (stride : ℕ) (drops : Option ℕ) (s : Scanning) → after_drop_in drops (scan_of stride s) ≡ scan_of stride (after_drop drops s)
+dropped_kept stride None s = refl
+dropped_kept stride (Some chunk) s = λ i. record (cleared (dropped s.phase) (scan_of stride s)) { range = sym (no_range s.phase s.ask) i }
+
+touches_is : (ask : Option Ask) (item : Item) → in_ask ask item.family ≡ touches ask (Some item)
+touches_is None item = refl
+touches_is (Some ask) item = refl
+
+drops_is : (stride : ℕ) (s : Scanning) (item : Item) → drop_in (scan_of stride s) item.family ≡ drop_of s (Some item)
+drops_is stride s item = ap (λ t. chunk_where (can_drop s.phase && t) s.ask) (touches_is s.ask item)
+
+-- ---- events
 
 pub done_at : {A : Type 0} (asked : Option Item) (old new : Device) (answer : A) → IsWrittenAt asked old (Ok answer) new → IsDoneAt asked old new
 done_at None old new answer is = is
@@ -24,12 +97,21 @@ faults_then : (asked : Option Item) (old new : Device) → IsDoneAt asked old ne
 faults_then None old new is = absurd is
 faults_then (Some item) old new is = ap (λ (d : Device). d.faults) is.0
 
+-- the chunk that an item drops is the one that is due
+pub drop_due : (stride : ℕ) (device : Device) (items : List Item) (count : ℕ) (scan : Scan) (past : List Event) (item : Item) (drops : Option ℕ) → IsTied stride device items count scan past
+    → count < length items → slice_get items count ≡ Some item → drops ≡ drop_in scan item.family → drops ≡ drop_of (scanning past) (item_of (count + 1) (fed past))
+drop_due stride device items count scan past item drops tied below here is =
+    let at : item_of (count + 1) (fed past) ≡ Some item = sym (found count items (fed past) tied.all_items tied.numbered below) ∙ here in
+    is ∙ ap (λ s. drop_in s item.family) tied.scan_is ∙ drops_is stride (scanning past) item ∙ ap (drop_of (scanning past)) (sym at)
+
 -- the next item was written
-pub tied_applied : {A : Type 0} (old new : Device) (items shown : List Item) (count : ℕ) (past : List Event) (answer : A) → IsTied old items count past → count < length items
-    → shown ≡ items → IsWrittenAt (slice_get shown count) old (Ok answer) new → IsTied new items (count + 1) (Applied (count + 1) ∷ past)
-tied_applied old new items shown count past answer tied below same is =
+pub tied_applied : {A : Type 0} (stride : ℕ) (old new : Device) (items shown : List Item) (count : ℕ) (scan after : Scan) (past : List Event) (item : Item) (drops : Option ℕ) (answer : A)
+    → IsTied stride old items count scan past → count < length items → shown ≡ items → slice_get items count ≡ Some item → IsWrittenAt (slice_get shown count) old (Ok answer) new
+    → drops ≡ drop_in scan item.family → after ≡ after_drop_in drops scan → IsTied stride new items (count + 1) after (Applied (count + 1) drops ∷ past)
+tied_applied stride old new items shown count scan after past item drops answer tied below same here is drop left =
     let at : slice_get items count ≡ item_of (count + 1) (fed past) = found count items (fed past) tied.all_items tied.numbered below in
     let done : IsDoneAt (item_of (count + 1) (fed past)) old new = subst (λ asked. IsDoneAt asked old new) (ap (λ l. slice_get l count) same ∙ at) (done_at (slice_get shown count) old new answer is) in
+    let fits : count + 1 ≤ length (fed past) = omega (arith, below, ap length tied.all_items, length-reverse (fed past)) in
     record {
       all_items = tied.all_items;
       numbered = tied.numbered;
@@ -37,12 +119,27 @@ tied_applied old new items shown count past answer tied below same is =
       within = omega (arith, below);
       holds = stored_then (item_of (count + 1) (fed past)) old new (stored_by past) done tied.holds;
       counted = omega (arith, tied.counted, faults_then (item_of (count + 1) (fed past)) old new done);
+      scan_is = left ∙ ap (after_drop_in drops) tied.scan_is ∙ dropped_kept stride drops (scanning past);
+      legal = ((ap (λ n. n + 1) tied.count_is, fits, drop_due stride old items count scan past item drops tied below here drop), tied.legal);
+      some = tied.some;
     }
 
+-- what is answered then
+pub applied_answer : {A : Type 0} (stride : ℕ) (old new : Device) (items shown : List Item) (count : ℕ) (scan : Scan) (past : List Event) (item : Item) (drops : Option ℕ) (answer : A)
+    → IsTied stride old items count scan past → count < length items → shown ≡ items → slice_get items count ≡ Some item → IsWrittenAt (slice_get shown count) old (Ok answer) new → drops ≡ drop_in scan item.family
+    → (count + 1 ≡ applied past + 1) × (count + 1 ≤ length (fed past)) × IsDoneAt (item_of (count + 1) (fed past)) old new × (drops ≡ drop_of (scanning past) (item_of (count + 1) (fed past)))
+applied_answer stride old new items shown count scan past item drops answer tied below same here is drop =
+    let at : slice_get items count ≡ item_of (count + 1) (fed past) = found count items (fed past) tied.all_items tied.numbered below in (
+      ap (λ n. n + 1) tied.count_is,
+      omega (arith, below, ap length tied.all_items, length-reverse (fed past)),
+      subst (λ asked. IsDoneAt asked old new) (ap (λ l. slice_get l count) same ∙ at) (done_at (slice_get shown count) old new answer is),
+      drop_due stride old items count scan past item drops tied below here drop,
+    )
+
 -- items were fed
-pub tied_fed : (device : Device) (before fresh items : List Item) (last count from : ℕ) (past : List Event) → IsTied device before count past → AreNext from items → from ≤ length (fed past)
-    → last ≡ length before → fresh ≡ beyond last items → IsTied device (before ++ fresh) count (Fed from items ∷ past)
-tied_fed device before fresh items last count from past tied next begins l is =
+pub tied_fed : (stride : ℕ) (device : Device) (before fresh items : List Item) (last count from : ℕ) (scan after : Scan) (ask : Option Ask) (past : List Event) → IsTied stride device before count scan past → AreNext from items
+    → from ≤ length (fed past) → last ≡ length before → fresh ≡ beyond last items → after ≡ asked_if ask scan → IsTied stride device (before ++ fresh) count after (Fed from items ask ∷ past)
+tied_fed stride device before fresh items last count from scan after ask past tied next begins l is left =
     let len : last ≡ length (fed past) = l ∙ ap length tied.all_items ∙ length-reverse (fed past) in
     let new : beyond (length (fed past)) items ≡ fresh = ap (λ n. beyond n items) (sym len) ∙ sym is in
     record {
@@ -54,4 +151,103 @@ tied_fed device before fresh items last count from past tied next begins l is =
       within = omega (arith, tied.within, length-append before fresh);
       holds = tied.holds;
       counted = tied.counted;
+      scan_is = left ∙ ap (asked_if ask) tied.scan_is ∙ asked_kept stride ask (scanning past);
+      legal = ((next, begins), tied.legal);
+      some = tied.some;
     }
+
+pub rose_from : (last old new : ℕ) → last ≤ old → Rose old new → Rose last new
+rose_from last old new below rose = record {
+  kept = omega (arith, below, rose.kept);
+  more = λ e. rose.more (omega (arith, below, rose.kept, e));
+}
+
+-- the device failed at the next item
+pub tied_fault : (stride : ℕ) (old new : Device) (items : List Item) (count faults : ℕ) (scan : Scan) (past : List Event) → IsTied stride old items count scan past → count < length items
+    → IsFailed kinds.Write old new → faults ≡ new.faults → IsTied stride new items count scan (DeviceFault faults ∷ past)
+tied_fault stride old new items count faults scan past tied below failed e = record {
+  all_items = tied.all_items;
+  numbered = tied.numbered;
+  count_is = tied.count_is;
+  within = tied.within;
+  holds = ap (λ (d : Device). d.stored) failed.0 ∙ tied.holds;
+  counted = omega (arith, e);
+  scan_is = tied.scan_is;
+  legal = ((omega (arith, below, tied.count_is, ap length tied.all_items, length-reverse (fed past)), subst (λ n. Rose (last_count past) n) (sym e) (rose_from (last_count past) old.faults new.faults tied.counted failed.1)), tied.legal);
+  some = tied.some;
+}
+
+-- damage was done
+pub tied_damaged : (stride : ℕ) (old new : Device) (items : List Item) (count : ℕ) (scan : Scan) (past : List Event) (family : Family) (snap : ℕ) (damage : Damage) → IsTied stride old items count scan past
+    → new ≡ with_damage family snap damage old → damages.Damaged ≡ damage_answer past family snap damage → IsTied stride new items count scan (Damaged family snap damage damages.Damaged ∷ past)
+tied_damaged stride old new items count scan past family snap damage tied is answer = record {
+  all_items = tied.all_items;
+  numbered = tied.numbered;
+  count_is = tied.count_is;
+  within = tied.within;
+  holds = ap (λ (d : Device). d.stored) is ∙ ap (harmed family snap damage) tied.holds;
+  counted = omega (arith, tied.counted, ap (λ (d : Device). d.faults) is);
+  scan_is = tied.scan_is;
+  legal = (answer, tied.legal);
+  some = tied.some;
+}
+
+-- or refused
+pub tied_refused : (stride : ℕ) (device : Device) (items : List Item) (count : ℕ) (scan : Scan) (past : List Event) (family : Family) (snap : ℕ) (damage : Damage) (answer : DamageAnswer)
+    → IsTied stride device items count scan past → answer ≡ damage_answer past family snap damage → (answer ≡ damages.Damaged → ⊥) → IsTied stride device items count scan (Damaged family snap damage answer ∷ past)
+tied_refused stride device items count scan past family snap damage damages.Damaged tied is other = absurd (other refl)
+tied_refused stride device items count scan past family snap damage damages.BeingRead tied is other = record {
+  all_items = tied.all_items;
+  numbered = tied.numbered;
+  count_is = tied.count_is;
+  within = tied.within;
+  holds = tied.holds;
+  counted = tied.counted;
+  scan_is = tied.scan_is;
+  legal = (is, tied.legal);
+  some = tied.some;
+}
+tied_refused stride device items count scan past family snap damage (damages.ShardFull bytes) tied is other = record {
+  all_items = tied.all_items;
+  numbered = tied.numbered;
+  count_is = tied.count_is;
+  within = tied.within;
+  holds = tied.holds;
+  counted = tied.counted;
+  scan_is = tied.scan_is;
+  legal = (is, tied.legal);
+  some = tied.some;
+}
+
+-- the device was only read
+pub tied_read : (stride : ℕ) (old new : Device) (items : List Item) (count : ℕ) (scan : Scan) (past : List Event) → IsTied stride old items count scan past → new.stored ≡ old.stored → old.faults ≤ new.faults
+    → IsTied stride new items count scan past
+tied_read stride old new items count scan past tied same up = record {
+  all_items = tied.all_items;
+  numbered = tied.numbered;
+  count_is = tied.count_is;
+  within = tied.within;
+  holds = same ∙ tied.holds;
+  counted = omega (arith, tied.counted, up);
+  scan_is = tied.scan_is;
+  legal = tied.legal;
+  some = tied.some;
+}
+
+-- a step of the scan was made, which isn't a fault
+abbrev KeepsCount : Event → List Event → Type 0
+KeepsCount event past = (fed (event ∷ past) ≡ fed past) × (applied (event ∷ past) ≡ applied past) × (stored_by (event ∷ past) ≡ stored_by past) × (last_count (event ∷ past) ≡ last_count past)
+
+pub tied_step : (stride : ℕ) (device : Device) (items : List Item) (count : ℕ) (scan after : Scan) (past : List Event) (event : Event) → IsTied stride device items count scan past → KeepsCount event past
+    → after ≡ scan_of stride (scanning (event ∷ past)) → IsDue stride event past → IsTied stride device items count after (event ∷ past)
+tied_step stride device items count scan after past event tied keeps is due = record {
+  all_items = tied.all_items ∙ ap reverse (sym keeps.0);
+  numbered = subst AreNumbered (sym keeps.0) tied.numbered;
+  count_is = tied.count_is ∙ sym keeps.1;
+  within = tied.within;
+  holds = tied.holds ∙ sym keeps.2;
+  counted = omega (arith, tied.counted, keeps.3);
+  scan_is = is;
+  legal = (due, tied.legal);
+  some = tied.some;
+}

@@ -1,9 +1,7 @@
--- What a shard's history says, and which events may follow one another. A history is a list of events, the newest first.
+-- How a shard is seen, what it answers, and what its calls leave of its device.
 pub mod Answers
-pub mod Feeds
-pub mod Held
-pub mod Laws
-pub mod Legal
-pub mod State
-pub mod Stores
 pub mod Listed
+pub mod Scan
+pub mod Scans
+pub mod Steps
+pub mod State

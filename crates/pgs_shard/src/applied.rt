@@ -2,7 +2,13 @@
 #[derive(Clone, Copy, Debug)]
 pub enum Applied {
     /// All items that were fed are applied.
-    NotYet { applied: u64 },
+    NotYet {
+        applied: u64,
+    },
     /// The item of this number was applied.
-    Applied { number: u64 },
+    Applied {
+        number: u64,
+        /// The chunk whose scan or map it dropped.
+        drops: Option<u64>,
+    },
 }

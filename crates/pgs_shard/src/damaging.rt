@@ -3,23 +3,21 @@ ghost use Rattle.std.specs.Prelude.{◌≡◌, IfOk, reverse, nat_lt, if◌then�
 ghost use Rattle.std.specs.Option.{option_copied};
 ghost use Rattle.pgs_copy.specs.Copies.{damaged as damaged_copy};
 ghost use Rattle.pgs_store.specs.Stores.{copy_size};
-ghost use Rattle.pgs_shard.specs.declared.damage_answer.DamageAnswer.TheVariants.{Damaged, ShardFull};
-ghost use Rattle.pgs_shard.specs.declared.limits.TheConstants.{SHARD_MAX as MAX};
-ghost use Rattle.pgs_shard.specs.Held as defined;
-ghost use Rattle.pgs_shard.specs.Stores.{stored_by};
+ghost use Rattle.pgs_shard_history.specs.declared.damage_answer.DamageAnswer.TheVariants.{Damaged, ShardFull};
+ghost use Rattle.pgs_shard_history.specs.declared.limits.TheConstants.{SHARD_MAX as MAX};
+ghost use Rattle.pgs_shard_history.specs.Held as defined;
+ghost use Rattle.pgs_shard_history.specs.Stores.{stored_by};
 
-use crate::damage_answer::DamageAnswer;
-use crate::event::Event;
 use crate::holding::{held, size_of, sum};
-use crate::limits::SHARD_MAX;
 use pgs_copy::{Damage, ObjCopy, damaged, makes_copy};
 use pgs_medium::Medium;
 use pgs_name::Family;
+use pgs_shard_history::{DamageAnswer, Event, SHARD_MAX};
 use std::alloc::{AllocError, Global};
 
-/// What damage to a copy of a device is answered. The events say what the device holds. All copies are measured only where one grows.
+/// What damage to a copy of a device is answered that isn't being read. The events say what the device holds. All copies are measured only where one grows.
 #[tactic(auto, using(crate::proofs::Sizes::never_more, crate::proofs::Sizes::not_more))]
-pub fn damage_answer<M: Medium>(
+pub fn room_answer<M: Medium>(
     alloc: Global,
     medium: &M,
     events: &[Event],
@@ -28,7 +26,7 @@ pub fn damage_answer<M: Medium>(
     damage: &Damage,
 ) -> Result<DamageAnswer, AllocError>
     requires { (M.device medium.now).stored ≡ stored_by (reverse events.now) }
-    ensures { IfOk result (λ answer. answer ≡ defined.damage_answer (reverse events.now) family.now snap damage.now) }
+    ensures { IfOk result (λ answer. answer ≡ defined.room_answer (reverse events.now) family.now snap damage.now) }
 {
     if !makes_copy(damage) {
         return Ok(DamageAnswer::Damaged);

@@ -2,13 +2,13 @@
 ghost use Rattle.std.specs.Prelude.{◌≡◌, ◌+◌, IfOk, reverse};
 ghost use Rattle.std.specs.Option.{option_copied};
 ghost use Rattle.pgs_store.specs.Stores.{copy_size};
-ghost use Rattle.pgs_shard.specs.Held as defined;
-ghost use Rattle.pgs_shard.specs.Stores.{stored_by};
+ghost use Rattle.pgs_shard_history.specs.Held as defined;
+ghost use Rattle.pgs_shard_history.specs.Stores.{stored_by};
 
-use crate::event::Event;
 use pgs_copy::ObjCopy;
 use pgs_medium::Medium;
 use pgs_range::{Bound, Cursor};
+use pgs_shard_history::Event;
 use std::alloc::AllocError;
 
 /// The bytes of a copy, if there is one. A number over 64 bits is refused as want of memory is.

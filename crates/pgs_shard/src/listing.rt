@@ -1,13 +1,14 @@
 ghost use Rattle.std.specs.Prelude.{◌≡◌, IfOk, reverse};
 ghost use Rattle.pgs_chunk.specs.Listings as listings;
-ghost use Rattle.pgs_shard.specs.Listed.{positions, IsListedOn};
-ghost use Rattle.pgs_shard.specs.Stores.{stored_by};
+ghost use Rattle.pgs_shard_history.specs.Positions.{positions};
+ghost use Rattle.pgs_shard.specs.Listed.{IsListedOn};
+ghost use Rattle.pgs_shard_history.specs.Stores.{stored_by};
 
-use crate::event::Event;
 use pgs_chunk::is_full;
 use pgs_medium::{Medium, MediumError};
 use pgs_name::ObjectId;
 use pgs_range::{Bound, Cursor};
+use pgs_shard_history::Event;
 use sqlite_items::Items;
 use std::alloc::Global;
 

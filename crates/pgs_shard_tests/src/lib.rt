@@ -6,4 +6,8 @@ mod listing;
 #[cfg(test)]
 mod many;
 #[cfg(test)]
+mod reading;
+#[cfg(test)]
+mod scanning;
+#[cfg(test)]
 mod tests;

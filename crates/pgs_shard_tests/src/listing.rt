@@ -2,14 +2,15 @@
 ghost use Rattle.std.specs.Prelude.{◌≡◌, IfOk};
 ghost use Rattle.pgs_store.specs.Stores.{nothing_stored};
 ghost use Rattle.pgs_medium.specs.Ram.{device_of};
-ghost use Rattle.pgs_shard.specs.Feeds.{AreNext};
+ghost use Rattle.pgs_shard_history.specs.Feeds.{AreNext};
 
 use pgs_bytes::Bytes;
 use pgs_copy::Effect;
 use pgs_medium::{CallKind, FailingCall, Item, Medium, RamMedium};
 use pgs_name::{Family, HEAD, ObjectId, is_before};
 use pgs_range::{Bound, Cursor};
-use pgs_shard::{Event, ListError, Shard};
+use pgs_shard::{ListError, Shard};
+use pgs_shard_history::Event;
 use sqlite_items::Items;
 use std::alloc::{AllocError, Global};
 use std::test::Fail;
@@ -59,9 +60,9 @@ fn medium(alloc: Global, number: u64) -> Result<RamMedium, AllocError>
 
 fn shard(alloc: Global, failing: u64) -> Result<Shard<RamMedium>, AllocError> {
     let medium = medium(alloc, failing)?;
-    let mut shard = Shard::new(alloc, medium, 3);
+    let mut shard = Shard::new(alloc, medium, 3, 4);
     let items = items(alloc)?;
-    shard.feed(0, items)?;
+    shard.feed(0, items, None)?;
     for _ in 0..3 {
         let _ = shard.apply_next();
     }

@@ -1,13 +1,14 @@
 ghost use Rattle.std.specs.Prelude.{◌≡◌, IfOk};
 ghost use Rattle.pgs_store.specs.Stores.{nothing_stored};
 ghost use Rattle.pgs_medium.specs.Ram.{device_of};
-ghost use Rattle.pgs_shard.specs.Feeds.{AreNext};
+ghost use Rattle.pgs_shard_history.specs.Feeds.{AreNext};
 
 use pgs_bytes::Bytes;
 use pgs_copy::{Damage, Effect};
 use pgs_medium::{CallKind, FailingCall, Item, Medium, RamMedium};
 use pgs_name::{Family, HEAD};
-use pgs_shard::{Applied, ApplyError, DamageAnswer, Event, Shard};
+use pgs_shard::{Applied, ApplyError, Shard};
+use pgs_shard_history::{DamageAnswer, Event};
 use sqlite_items::Items;
 use std::alloc::{AllocError, Global};
 use std::test::Fail;
@@ -59,9 +60,9 @@ fn medium(alloc: Global) -> Result<RamMedium, AllocError>
 
 fn shard(alloc: Global) -> Result<Shard<RamMedium>, AllocError> {
     let medium = medium(alloc)?;
-    let mut shard = Shard::new(alloc, medium, 3);
+    let mut shard = Shard::new(alloc, medium, 3, 4);
     let items = items(alloc)?;
-    shard.feed(0, items)?;
+    shard.feed(0, items, None)?;
     Ok(shard)
 }
 
@@ -82,7 +83,7 @@ fn a_failed_write_leaves_the_item_waiting(rt: HostRuntime) -> Result<(), Fail> {
     assert_eq!(rt; shard.applied(), 0);
     assert!(rt; head(&shard, &family).is_none());
     let applied = shard.apply_next();
-    assert!(rt; matches!(&applied, Ok(Applied::Applied { number: 1 })));
+    assert!(rt; matches!(&applied, Ok(Applied::Applied { number: 1, .. })));
     Ok(())
 }
 

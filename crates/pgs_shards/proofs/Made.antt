@@ -20,10 +20,10 @@ use Rattle.pgs_copy.specs.declared.obj_copy.ObjCopy.{ObjCopy}
 use Rattle.pgs_map.specs.Entries.{entry_of, AreAscending, AreInRange}
 use Rattle.pgs_map.specs.declared.entry.Entry.{Entry}
 use Rattle.pgs_store.specs.Stores.{Stored, is_stored}
-use Rattle.pgs_shard.specs.Listed.{positions}
-use Rattle.pgs_shard.specs.Stores.{stored_by}
-use Rattle.pgs_shard.specs.declared.event.Event.{Event}
-use Rattle.pgs_shard.proofs.Positions.{are_positions}
+use Rattle.pgs_shard_history.specs.Positions.{positions}
+use Rattle.pgs_shard_history.specs.Stores.{stored_by}
+use Rattle.pgs_shard_history.specs.declared.event.Event.{Event}
+use Rattle.pgs_shard_history.proofs.Positions.{are_positions}
 use Rattle.pgs_shards.specs.Entries.{entry_in, positions_in, entries_in}
 
 -- ---- they ascend, and lie in the range

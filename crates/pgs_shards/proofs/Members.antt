@@ -5,8 +5,8 @@ use Rattle.std.proofs.lemmas.Bool.Decides.{eqb_tells}
 use Rattle.pgs_bytes.proofs.Facts.{true_false}
 use Rattle.pgs_name.specs.Families.{Family}
 use Rattle.pgs_copy.specs.declared.damage.Damage.{Damage}
-use Rattle.pgs_shard.specs.Held.{damage_answer}
-use Rattle.pgs_shard.specs.declared.event.Event.{Event}
+use Rattle.pgs_shard_history.specs.Held.{damage_answer}
+use Rattle.pgs_shard_history.specs.declared.event.Event.{Event}
 use Rattle.pgs_shards.specs.Members.{Member, beginning, past_in, with_event, damage_in}
 
 -- an OSD has a history

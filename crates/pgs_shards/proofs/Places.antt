@@ -12,23 +12,22 @@ use Rattle.pgs_chunk.specs.Listings.{listing}
 use Rattle.pgs_map.specs.declared.entry.Entry.{Entry}
 use Rattle.pgs_medium.specs.Calls.{is_named}
 use Rattle.pgs_medium.specs.declared.call_kind.CallKind.TheVariants.{List as Listing}
-use Rattle.pgs_shard.specs.Listed.{positions}
+use Rattle.pgs_shard_history.specs.Positions.{positions}
 use Rattle.pgs_shards.specs.Entries.{entries_in}
 use Rattle.pgs_shard.specs.State.{ShardState}
-use Rattle.pgs_shard.specs.declared.event.Event.{Event}
-use Rattle.pgs_shard.specs.Feeds.{fed}
-use Rattle.pgs_shard.specs.Stores.{applied}
+use Rattle.pgs_shard_history.specs.declared.event.Event.{Event}
+use Rattle.pgs_shard_history.specs.Feeds.{fed}
+use Rattle.pgs_shard_history.specs.Stores.{applied}
 use Rattle.pgs_shard.specs.declared.applied.Applied.{Applied as ApplyAnswer}
 use Rattle.pgs_shard.specs.declared.applied.Applied.TheVariants.{NotYet}
-use Rattle.pgs_shard.specs.declared.event.Event.TheVariants.{Applied}
-use Rattle.pgs_shard.specs.declared.event.Event.TheVariants as events
+use Rattle.pgs_shard_history.specs.declared.event.Event.TheVariants as events
 use Rattle.pgs_copy.specs.declared.damage.Damage.{Damage}
 use Rattle.pgs_name.specs.Families.{Family}
-use Rattle.pgs_shard.specs.Held.{damage_answer}
-use Rattle.pgs_shard.specs.declared.damage_answer.DamageAnswer.{DamageAnswer}
-use Rattle.pgs_shard.specs.declared.damage_answer.DamageAnswer.TheVariants.{Damaged}
+use Rattle.pgs_shard_history.specs.Held.{damage_answer}
+use Rattle.pgs_shard_history.specs.declared.damage_answer.DamageAnswer.{DamageAnswer}
+use Rattle.pgs_shard_history.specs.declared.damage_answer.DamageAnswer.TheVariants.{Damaged}
 use Rattle.std.proofs.lemmas.List.{drop_more}
-use Rattle.pgs_shards.specs.Members.{Member, beginning, past_in, with_event, with_past, waits, with_applied, apply_answer, damage_in, with_damage}
+use Rattle.pgs_shards.specs.Members.{Member, beginning, past_in, with_event, with_past, waits, applied_next, with_applied, apply_answer, damage_in, with_damage}
 use Rattle.pgs_shards.specs.Kept.{seen, IsQuiet, AreQuiet, is_of}
 
 abbrev Shard : Type 0
@@ -221,18 +220,18 @@ same_set osd shards at new d e same past =
 
 pub applied_set : (osd : ℕ) (shards : List Shard) (at : ℕ) (new d : Shard) → position (is_of osd) shards ≡ Some at
     → new.osd ≡ (get_or shards at d).osd
-    → new.past ≡ cond (waits (get_or shards at d).past) (Applied (applied (get_or shards at d).past + 1) ∷ (get_or shards at d).past) (get_or shards at d).past
+    → new.past ≡ cond (waits (get_or shards at d).past) (applied_next (get_or shards at d).past ∷ (get_or shards at d).past) (get_or shards at d).past
     → map seen (set shards at new) ≡ with_applied osd (map seen shards)
 applied_set osd shards at new d e same past =
     let is = is_at osd shards at e in
     let here : past_in (map seen shards) osd ≡ (get_or shards at d).past = past_is osd shards at d is.0 is.1 in
-    let P : Bool → Type 0 = λ v. new.past ≡ cond v (Applied (applied (get_or shards at d).past + 1) ∷ (get_or shards at d).past) (get_or shards at d).past
-    → map seen (set shards at new) ≡ cond v (with_event osd (Applied (applied (past_in (map seen shards) osd) + 1)) (map seen shards)) (map seen shards) in
+    let P : Bool → Type 0 = λ v. new.past ≡ cond v (applied_next (get_or shards at d).past ∷ (get_or shards at d).past) (get_or shards at d).past
+    → map seen (set shards at new) ≡ cond v (with_event osd (applied_next (past_in (map seen shards) osd)) (map seen shards)) (map seen shards) in
     (elim (waits (past_in (map seen shards) osd)) as P [
-      | true ↦ λ p. event_set osd (Applied (applied (past_in (map seen shards) osd) + 1)) shards at new d e same
-          (p ∙ ap (λ x. Applied (applied x + 1) ∷ (get_or shards at d).past) (sym here))
+      | true ↦ λ p. event_set osd (applied_next (past_in (map seen shards) osd)) shards at new d e same
+          (p ∙ ap (λ x. applied_next x ∷ (get_or shards at d).past) (sym here))
       | false ↦ λ p. same_set osd shards at new d e same p
-    ]) (past ∙ ap (λ x. cond (waits x) (Applied (applied (get_or shards at d).past + 1) ∷ (get_or shards at d).past) (get_or shards at d).past) (sym here))
+    ]) (past ∙ ap (λ x. cond (waits x) (applied_next (get_or shards at d).past ∷ (get_or shards at d).past) (get_or shards at d).past) (sym here))
 
 -- ---- a shard more
 
@@ -256,7 +255,7 @@ module _ (osd : ℕ) (shards : List Shard) (now : List Member) (view : map seen 
 
     pub applied_none : now ≡ with_applied osd now
     applied_none =
-        sym (ap (λ past. cond (waits past) (with_event osd (Applied (applied past + 1)) now) now) (ap (λ members. past_in members osd) (sym view) ∙ past_nowhere osd shards none))
+        sym (ap (λ past. cond (waits past) (with_event osd (applied_next past) now) now) (ap (λ members. past_in members osd) (sym view) ∙ past_nowhere osd shards none))
 
     pub listed_none : (limit : ℕ) (start : Bound) → [] ≡ listing limit start (positions (past_in now osd))
     listed_none limit start = sym (ap (λ members. listing limit start (positions (past_in members osd))) (sym view) ∙ ap (λ past. listing limit start (positions past)) (past_nowhere osd shards none))
@@ -312,10 +311,10 @@ module _ (osd : ℕ) (shards : List Shard) (now : List Member) (view : map seen 
           event_some (events.Damaged family snap damage (damage_in now osd family snap damage))
           (past ∙ ap (λ a. events.Damaged family snap damage a ∷ shard.past) (sym (damage_now family snap damage)))
 
-      pub applied_some : new.past ≡ cond (waits shard.past) (Applied (applied shard.past + 1) ∷ shard.past) shard.past → map seen (set shards at new) ≡ with_applied osd now
+      pub applied_some : new.past ≡ cond (waits shard.past) (applied_next shard.past ∷ shard.past) shard.past → map seen (set shards at new) ≡ with_applied osd now
       applied_some past =
           applied_set osd shards at new shard there (same ∙ ap (λ s. s.osd) is)
-          (past ∙ ap (λ s. cond (waits s.past) (Applied (applied s.past + 1) ∷ s.past) s.past) is)
+          (past ∙ ap (λ s. cond (waits s.past) (applied_next s.past ∷ s.past) s.past) is)
           ∙ ap (with_applied osd) view
 
 pub ruleset places = (answer_none, applied_none, event_none, listed_none, entries_none, damage_none, answer_some, listed_some, entries_some, damage_some, harmed_some, from_some, same_some, event_some, applied_some)

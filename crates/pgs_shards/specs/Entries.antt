@@ -7,9 +7,9 @@ use Rattle.pgs_range.specs.declared.family_range.FamilyRange.{FamilyRange}
 use Rattle.pgs_map.specs.Entries.{entry_of}
 use Rattle.pgs_map.specs.declared.entry.Entry.{Entry}
 use Rattle.pgs_store.specs.Stores.{Stored}
-use Rattle.pgs_shard.specs.Listed.{positions}
-use Rattle.pgs_shard.specs.Stores.{stored_by}
-use Rattle.pgs_shard.specs.declared.event.Event.{Event}
+use Rattle.pgs_shard_history.specs.Positions.{positions}
+use Rattle.pgs_shard_history.specs.Stores.{stored_by}
+use Rattle.pgs_shard_history.specs.declared.event.Event.{Event}
 
 -- the entry of the copy that is stored at a position, if there is one, with both digests where its data and omap are read
 abbrev pub entry_in : Bool → Stored → ObjectId → Option Entry

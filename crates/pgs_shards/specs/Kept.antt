@@ -4,17 +4,15 @@ use Rattle.std.specs.List.{AllByRecursion}
 use Rattle.pgs_medium.specs.Ram.{device_of}
 use Rattle.pgs_medium.specs.declared.ram_medium.RamMedium.{RamMedium}
 use Rattle.pgs_shard.specs.State.{ShardState}
-use Rattle.pgs_shard.specs.Legal.{IsLegal}
 use Rattle.pgs_shards.specs.Members.{Member}
 
 -- a shard by its OSD and its events
 abbrev pub seen : ShardState RamMedium → Member
 seen shard = record { osd = shard.osd; past = shard.past }
 
--- a shard whose device is to fail no call, and whose history is legal
+-- a shard whose device is to fail no call
 pub record IsQuiet (shard : ShardState RamMedium) : Type 0 where
   pub failing : (device_of shard.medium).failing ≡ Some []
-  pub legal : IsLegal shard.past
 
 abbrev pub AreQuiet : List (ShardState RamMedium) → Type 0
 AreQuiet shards = AllByRecursion IsQuiet shards

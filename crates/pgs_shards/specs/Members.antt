@@ -1,16 +1,17 @@
 -- The shards of a group's members are seen as the list of their OSDs, each with its events, the newest first.
-use Rattle.std.specs.Prelude.{ℕ, Bool, ◌+◌, ◌==◌, nat_lt, List, [], ◌∷◌, length, map, if◌then◌else◌}
+use Rattle.std.specs.Prelude.{ℕ, Bool, ◌+◌, ◌==◌, nat_lt, List, [], ◌∷◌, length, map, Option, if◌then◌else◌}
 use Rattle.pgs_name.specs.Families.{Family}
 use Rattle.pgs_copy.specs.declared.damage.Damage.{Damage}
-use Rattle.pgs_shard.specs.Feeds.{fed}
-use Rattle.pgs_shard.specs.Held.{damage_answer}
-use Rattle.pgs_shard.specs.declared.damage_answer.DamageAnswer.{DamageAnswer}
-use Rattle.pgs_shard.specs.declared.damage_answer.DamageAnswer.TheVariants.{Damaged}
-use Rattle.pgs_shard.specs.Stores.{applied}
+use Rattle.pgs_shard_history.specs.Feeds.{fed, item_of}
+use Rattle.pgs_shard_history.specs.Scanning.{scanning, drop_of}
+use Rattle.pgs_shard_history.specs.Held.{damage_answer}
+use Rattle.pgs_shard_history.specs.declared.damage_answer.DamageAnswer.{DamageAnswer}
+use Rattle.pgs_shard_history.specs.declared.damage_answer.DamageAnswer.TheVariants.{Damaged}
+use Rattle.pgs_shard_history.specs.Stores.{applied}
 use Rattle.pgs_shard.specs.declared.applied.Applied.{Applied}
 use Rattle.pgs_shard.specs.declared.applied.Applied.TheVariants as answers
-use Rattle.pgs_shard.specs.declared.event.Event.{Event}
-use Rattle.pgs_shard.specs.declared.event.Event.TheVariants as events
+use Rattle.pgs_shard_history.specs.declared.event.Event.{Event}
+use Rattle.pgs_shard_history.specs.declared.event.Event.TheVariants as events
 
 pub record Member : Type 0 where
   pub osd : ℕ
@@ -37,14 +38,25 @@ with_event osd event (member ∷ members) =
 abbrev pub waits : List Event → Bool
 waits past = nat_lt (applied past) (length (fed past))
 
+-- the number of the next item, and the chunk whose scan or map it drops
+abbrev pub next_number : List Event → ℕ
+next_number past = applied past + 1
+
+abbrev pub next_drops : List Event → Option ℕ
+next_drops past = drop_of (scanning past) (item_of (next_number past) (fed past))
+
+-- the event of applying it
+abbrev pub applied_next : List Event → Event
+applied_next past = events.Applied (next_number past) (next_drops past)
+
 -- the members after an OSD applied its next item, if one waits
 abbrev pub with_applied : ℕ → List Member → List Member
 with_applied osd members =
-    if waits (past_in members osd) then with_event osd (events.Applied (applied (past_in members osd) + 1)) members else members
+    if waits (past_in members osd) then with_event osd (applied_next (past_in members osd)) members else members
 
--- what applying answers: the number of the item that is applied, or that none waits
+-- what applying answers: the number of the item that is applied and the chunk whose scan or map it drops, or that none waits
 abbrev pub apply_answer : List Event → Applied
-apply_answer past = if waits past then answers.Applied (applied past + 1) else answers.NotYet (applied past)
+apply_answer past = if waits past then answers.Applied (next_number past) (next_drops past) else answers.NotYet (applied past)
 
 -- ---- damage
 

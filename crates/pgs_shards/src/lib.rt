@@ -4,5 +4,7 @@
 mod entries;
 mod quiet;
 mod shards;
+mod stride;
 
 pub use shards::Shards;
+pub use stride::STRIDE;

@@ -1,19 +1,21 @@
 //! One shard, whose device fails no call.
 ghost use Rattle.std.specs.Prelude.{◌≡◌, ◌≤◌, ◌+◌, [], ◌∷◌, length, OnOk, OnErr, IfOk, if◌then◌else◌};
 ghost use Rattle.pgs_chunk.specs.Listings.{listing};
-ghost use Rattle.pgs_shard.specs.Listed.{positions};
-ghost use Rattle.pgs_shard.specs.Feeds.{AreNext, fed};
-ghost use Rattle.pgs_shard.specs.Held.{damage_answer};
-ghost use Rattle.pgs_shard.specs.Stores.{applied};
-ghost use Rattle.pgs_shard.specs.declared.event.Event.TheVariants as events;
-ghost use Rattle.pgs_shards.specs.Members.{waits, apply_answer};
+ghost use Rattle.pgs_shard_history.specs.Positions.{positions};
+ghost use Rattle.pgs_shard_history.specs.Feeds.{AreNext, fed};
+ghost use Rattle.pgs_shard_history.specs.Held.{damage_answer};
+ghost use Rattle.pgs_shard_history.specs.declared.event.Event.TheVariants as events;
+ghost use Rattle.pgs_shards.specs.Members.{waits, apply_answer, applied_next};
 ghost use Rattle.pgs_shards.specs.Kept.{IsQuiet};
 
+use crate::stride::STRIDE;
+use pgs_chunk::Ask;
 use pgs_copy::Damage;
 use pgs_medium::{Item, RamMedium};
 use pgs_name::{Family, ObjectId};
 use pgs_range::Bound;
-use pgs_shard::{Applied, ApplyError, DamageAnswer, ListError, Shard};
+use pgs_shard::{Applied, ApplyError, ListError, Shard};
+use pgs_shard_history::DamageAnswer;
 use sqlite_items::Items;
 use std::alloc::{AllocError, Global};
 
@@ -24,28 +26,34 @@ pub fn begin(alloc: Global, osd: u32) -> Shard<RamMedium>
     ensures quiet { IsQuiet result }
 {
     let medium = RamMedium::new(alloc, Items::new(alloc));
-    Shard::new(alloc, medium, osd)
+    Shard::new(alloc, medium, osd, STRIDE)
 }
 
-/// Takes items, numbered from one after `from` on.
-pub fn feed(shard: &mut Shard<RamMedium>, from: u64, items: Items<Item>) -> Result<(), AllocError>
+/// Takes items, numbered from one after `from` on, and an ask, if there is one.
+pub fn feed(
+    shard: &mut Shard<RamMedium>,
+    from: u64,
+    items: Items<Item>,
+    ask: Option<Ask>,
+) -> Result<(), AllocError>
     requires quiet { IsQuiet shard.old }
     requires next { AreNext from items }
     requires from { from ≤ length (fed shard.old.past) }
     ensures osd { shard.new.osd ≡ shard.old.osd }
-    ensures kept { OnOk result (shard.new.past ≡ events.Fed from items ∷ shard.old.past) }
+    ensures kept { OnOk result (shard.new.past ≡ events.Fed from items ask ∷ shard.old.past) }
     ensures err { OnErr result (shard.new.past ≡ shard.old.past) }
     ensures quiet { IsQuiet shard.new }
 {
-    shard.feed(from, items)
+    shard.feed(from, items, ask)
 }
 
 /// Applies the next item, if one waits.
+#[tactic(auto, using(crate::proofs::Applies::applies))]
 pub fn apply(shard: &mut Shard<RamMedium>) -> Result<Applied, AllocError>
     requires { IsQuiet shard.old }
     ensures answer { IfOk result (λ answer. answer ≡ apply_answer shard.old.past) }
     ensures osd { shard.new.osd ≡ shard.old.osd }
-    ensures kept { OnOk result (shard.new.past ≡ (if waits shard.old.past then events.Applied (applied shard.old.past + 1) ∷ shard.old.past else shard.old.past)) }
+    ensures kept { OnOk result (shard.new.past ≡ (if waits shard.old.past then applied_next shard.old.past ∷ shard.old.past else shard.old.past)) }
     ensures err { OnErr result (shard.new.past ≡ shard.old.past) }
     ensures quiet { IsQuiet shard.new }
 {

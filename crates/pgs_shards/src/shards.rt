@@ -1,23 +1,25 @@
 ghost use Rattle.std.specs.Prelude.{◌≡◌, ◌≤◌, ◌-◌, [], ◌∷◌, ◌++◌, length, map, position, OnOk, OnErr, IfOk};
 ghost use Rattle.pgs_chunk.specs.Listings.{listing};
 ghost use Rattle.pgs_map.specs.Entries.{AreInRange};
-ghost use Rattle.pgs_shard.specs.Listed.{positions};
+ghost use Rattle.pgs_shard_history.specs.Positions.{positions};
 ghost use Rattle.pgs_shards.specs.Entries.{entries_in};
-ghost use Rattle.pgs_shard.specs.Feeds.{AreNext, fed};
-ghost use Rattle.pgs_shard.specs.Stores.{applied};
-ghost use Rattle.pgs_shard.specs.declared.event.Event.TheVariants as events;
+ghost use Rattle.pgs_shard_history.specs.Feeds.{AreNext, fed};
+ghost use Rattle.pgs_shard_history.specs.Stores.{applied};
+ghost use Rattle.pgs_shard_history.specs.declared.event.Event.TheVariants as events;
 ghost use Rattle.pgs_shards.specs.Members.{beginning, past_in, with_event, with_applied, apply_answer, damage_in, with_damage};
 ghost use Rattle.pgs_shards.specs.Kept.{is_of, seen};
 
 use crate::entries::entries_of;
 use crate::quiet;
+use pgs_chunk::Ask;
 use pgs_copy::Damage;
 use pgs_crc::Tables;
 use pgs_map::Entry;
 use pgs_medium::{Item, RamMedium};
 use pgs_name::{Family, ObjectId};
 use pgs_range::{Bound, FamilyRange};
-use pgs_shard::{Applied, DamageAnswer, Shard};
+use pgs_shard::{Applied, Shard};
+use pgs_shard_history::DamageAnswer;
 use sqlite_items::Items;
 use std::alloc::{AllocError, Global};
 use std::marker::Model;
@@ -115,18 +117,24 @@ impl Shards {
         }
     }
 
-    /// Gives an OSD the items that it pulled, numbered from one after `from` on.
+    /// Gives an OSD the items that it pulled, numbered from one after `from` on, and the ask of a chunk, if there is one.
     #[tactic(auto, using(crate::proofs::Places::places, crate::proofs::Places::quiet_set))]
-    pub fn feed(&mut self, osd: u32, from: u64, items: Items<Item>) -> Result<(), AllocError>
+    pub fn feed(
+        &mut self,
+        osd: u32,
+        from: u64,
+        items: Items<Item>,
+        ask: Option<Ask>,
+    ) -> Result<(), AllocError>
         requires next { AreNext from items }
         requires from { from ≤ length (fed (past_in self.old osd)) }
-        ensures kept { OnOk result (self.new ≡ with_event osd (events.Fed from items) self.old) }
+        ensures kept { OnOk result (self.new ≡ with_event osd (events.Fed from items ask) self.old) }
         ensures err { OnErr result (self.new ≡ self.old) }
     {
         match place(self.items.as_slice(), osd) {
             Some(at) => {
                 let shard = &mut self.items[at];
-                quiet::feed(shard, from, items)?;
+                quiet::feed(shard, from, items, ask)?;
                 Ok(())
             }
             None => Ok(()),

@@ -4,7 +4,7 @@
 
 mod making;
 
-pub use making::{DIGEST, entry, head, heads, last_head, made, map_of, written};
+pub use making::{DIGEST, entry, head, heads, made, map_of, written};
 
 #[cfg(test)]
 mod tests;

@@ -25,7 +25,7 @@ pub const DIGEST: u32 = 0x56C3_A06C;
 const NO_OMAP: u32 = 0xB798_B438;
 
 /// A group of the OSDs 0, 1 and 2, whose chunks have one position each.
-pub fn made(alloc: Global, preemptions: u32) -> Result<Made, AllocError> {
+pub fn made(alloc: Global) -> Result<Made, AllocError> {
     let mut members = Items::new(alloc);
     members.push(0)?;
     members.push(1)?;
@@ -37,7 +37,7 @@ pub fn made(alloc: Global, preemptions: u32) -> Result<Made, AllocError> {
         limits: Limits {
             chunk_min: 1,
             chunk_max: 1,
-            preemptions,
+            preemptions: 5,
         },
     })
 }
@@ -86,17 +86,6 @@ fn in_order(alloc: Global, first: ObjectId, last: ObjectId) -> Result<Items<Obje
         Ordering::Less => ids.push(last)?,
         _ => {}
     }
-    Ok(ids)
-}
-
-/// The head of the object b.
-#[tactic(auto, using(crate::proofs::Few::few))]
-pub fn last_head(alloc: Global) -> Result<Items<ObjectId>, NameError>
-    ensures { IfOk result (λ ids. Ascends ids) }
-{
-    let last = head(alloc, b"b")?;
-    let mut ids = Items::new(alloc);
-    ids.push(last)?;
     Ok(ids)
 }
 

@@ -27,10 +27,10 @@ use Rattle.pgs_history.specs.declared.made.Made.{Made}
 use Rattle.pgs_history.proofs.Ids.{accepted_is, distinct, once, same_id_is}
 use Rattle.pgs_lines.specs.declared.done.Done.{Done}
 use Rattle.pgs_lines.specs.declared.done.Done.TheVariants as dones
-use Rattle.pgs_shard.specs.Stores.{applied}
-use Rattle.pgs_shard.specs.declared.event.Event.{Event as ShardEvent}
-use Rattle.pgs_shard.specs.declared.event.Event.TheVariants.{Applied, Damaged}
-use Rattle.pgs_shards.specs.Members.{Member, past_in, with_event, waits, damage_in, with_damage}
+use Rattle.pgs_shard_history.specs.Stores.{applied}
+use Rattle.pgs_shard_history.specs.declared.event.Event.{Event as ShardEvent}
+use Rattle.pgs_shard_history.specs.declared.event.Event.TheVariants.{Damaged}
+use Rattle.pgs_shards.specs.Members.{Member, past_in, with_event, waits, applied_next, damage_in, with_damage}
 use Rattle.pgs_world.specs.State.{WorldState}
 use Rattle.pgs_world.specs.Basics.{id_of, write_of, given, applied_by, after_collecting, after_write, after_pulling, after_telling, after_applying}
 use Rattle.pgs_world.specs.Counts.{AreInStep}
@@ -218,12 +218,12 @@ grows_tell w group osd =
 pub grows_apply : (w : WorldState) (group osd : ℕ) → Grows w (after_applying w group osd)
 grows_apply w group osd =
     let done : List Done = (after_applying w group osd).done in
-    (elim (waits (past_in w.members osd)) as (λ v. Grows w (record w { members = cond v (with_event osd (Applied (applied_by w osd + 1)) w.members) w.members; done = done })) [
+    (elim (waits (past_in w.members osd)) as (λ v. Grows w (record w { members = cond v (with_event osd (applied_next (past_in w.members osd)) w.members) w.members; done = done })) [
       | true ↦ record {
         same = refl;
         kept = λ id version e. e;
         tells = λ q. omega arith;
-        applies = λ q. applied_event w.members osd q (Applied (applied_by w osd + 1))
+        applies = λ q. applied_event w.members osd q (applied_next (past_in w.members osd))
             (λ past is. let same : applied past ≡ applied_by w osd = ap applied is in omega (arith, same));
       }
       | false ↦ record { same = refl; kept = λ id version e. e; tells = λ q. omega arith; applies = λ q. omega arith }

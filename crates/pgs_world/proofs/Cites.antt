@@ -11,10 +11,9 @@ use Rattle.pgs_history.specs.After.{after_collected}
 use Rattle.pgs_history.specs.declared.chunk.Chunk.{Chunk}
 use Rattle.pgs_history.specs.declared.event.Event.{Event}
 use Rattle.pgs_history.specs.declared.event.Event.TheVariants.{Submit, Collect, Pull, Tell, Begin, Open, Take, Close}
-use Rattle.pgs_shard.specs.Stores.{applied}
-use Rattle.pgs_shard.specs.declared.event.Event.{Event as ShardEvent}
-use Rattle.pgs_shard.specs.declared.event.Event.TheVariants.{Applied}
-use Rattle.pgs_shards.specs.Members.{Member, past_in, with_event, waits}
+use Rattle.pgs_shard_history.specs.Stores.{applied}
+use Rattle.pgs_shard_history.specs.declared.event.Event.{Event as ShardEvent}
+use Rattle.pgs_shards.specs.Members.{Member, past_in, with_event, waits, applied_next}
 use Rattle.pgs_shards.specs.Entries.{entries_in}
 use Rattle.pgs_world.specs.State.{WorldState}
 use Rattle.pgs_world.specs.Basics.{given, applied_by, after_pulling, after_telling, after_applying}
@@ -99,8 +98,8 @@ cited_more members osd event past h = all_cited members (with_event osd event me
 
 pub cited_apply : (w : WorldState) (group osd : ℕ) → AreCited w.members w.past → AreCited (after_applying w group osd).members (after_applying w group osd).past
 cited_apply w group osd h =
-    (elim (waits (past_in w.members osd)) as (λ b. AreCited (cond b (with_event osd (Applied (applied (past_in w.members osd) + 1)) w.members) w.members) w.past) [
-      | true ↦ cited_more w.members osd (Applied (applied (past_in w.members osd) + 1)) w.past h
+    (elim (waits (past_in w.members osd)) as (λ b. AreCited (cond b (with_event osd (applied_next (past_in w.members osd)) w.members) w.members) w.past) [
+      | true ↦ cited_more w.members osd (applied_next (past_in w.members osd)) w.past h
       | false ↦ h
     ])
 

@@ -1,5 +1,5 @@
 -- Every step keeps each member in step with its group.
-use Rattle.std.proofs.Common.{◌≡◌, ℕ, suc, ◌+◌, ◌<◌, ◌≤◌, ◌==◌, nat_lt, max, Bool, true, false, cond, List, [], ◌∷◌, length, reverse, refl, sym, ap, ◌∙◌, subst, arith, inl, inr}
+use Rattle.std.proofs.Common.{None, ◌≡◌, ℕ, suc, ◌+◌, ◌<◌, ◌≤◌, ◌==◌, nat_lt, max, Bool, true, false, cond, List, [], ◌∷◌, length, reverse, refl, sym, ap, ◌∙◌, subst, arith, inl, inr}
 use Rattle.std.specs.List.{list_any}
 use Rattle.std.proofs.lemmas.Bool.Decides.{nat_tests, eqb_tells}
 use Rattle.pgs_request.specs.declared.req_id.ReqId.{ReqId}
@@ -28,13 +28,13 @@ use Rattle.pgs_lines.specs.declared.object.Object.{Object}
 use Rattle.pgs_lines.specs.declared.snap.Snap.{Snap}
 use Rattle.pgs_lines.specs.declared.damage.Damage.{Damage}
 use Rattle.pgs_lines.specs.declared.done.Done.{Done}
-use Rattle.pgs_shard.specs.Feeds.{fed}
-use Rattle.pgs_shard.specs.Stores.{applied}
-use Rattle.pgs_shard.specs.declared.event.Event.{Event as ShardEvent}
-use Rattle.pgs_shard.specs.declared.event.Event.TheVariants.{Fed, Applied, Damaged}
-use Rattle.pgs_shards.specs.Members.{past_in, with_event, waits, damage_in}
-use Rattle.pgs_shard.specs.Held.{damage_answer}
-use Rattle.pgs_shard.specs.declared.damage_answer.DamageAnswer.{DamageAnswer}
+use Rattle.pgs_shard_history.specs.Feeds.{fed}
+use Rattle.pgs_shard_history.specs.Stores.{applied}
+use Rattle.pgs_shard_history.specs.declared.event.Event.{Event as ShardEvent}
+use Rattle.pgs_shard_history.specs.declared.event.Event.TheVariants.{Fed, Damaged}
+use Rattle.pgs_shards.specs.Members.{past_in, with_event, waits, applied_next, damage_in}
+use Rattle.pgs_shard_history.specs.Held.{damage_answer}
+use Rattle.pgs_shard_history.specs.declared.damage_answer.DamageAnswer.{DamageAnswer}
 use Rattle.pgs_shards.proofs.Members.{has, damage_here, past_in_here, past_in_other, osds_kept, osds_beginning, past_beginning}
 use Rattle.pgs_world.specs.State.{WorldState, opening}
 use Rattle.pgs_world.specs.Basics.{family_of, snap_of, damage_of, write_of, id_of, given, applied_by, after_write, after_collecting, after_pulling, after_telling, after_applying, after_damaging}
@@ -104,7 +104,7 @@ self_same : (n : ℕ) → (n == n) ≡ true
 self_same n = grind (arith, nat_tests)
 
 pulled_fed : (made : Made) (past : List Event) (osd : ℕ) (shard : List ShardEvent) → IsLegal made past → IsInStep past osd shard
-    → IsInStep (Pull osd (pulled past osd) (last_number past) ∷ past) osd (Fed (pulled past osd) (reverse (newer (pulled past osd) (log past))) ∷ shard)
+    → IsInStep (Pull osd (pulled past osd) (last_number past) ∷ past) osd (Fed (pulled past osd) (reverse (newer (pulled past osd) (log past))) None ∷ shard)
 pulled_fed made past osd shard legal h =
     let n : ℕ = pulled past osd in
     let within : n ≤ length (log past) = h.pulled_log in
@@ -122,13 +122,13 @@ pulled_fed made past osd shard legal h =
     }
 
 applied_one : (made : Made) (past : List Event) (osd : ℕ) (shard : List ShardEvent) → IsLegal made past → IsInStep past osd shard → waits shard ≡ true
-    → IsInStep past osd (Applied (applied shard + 1) ∷ shard)
+    → IsInStep past osd (applied_next shard ∷ shard)
 applied_one made past osd shard legal h waiting =
     let size : length (fed shard) ≡ pulled past osd = ap length h.items ∙ length_upto (pulled past osd) (log past) (numbered made past legal) h.pulled_log in
     let less : applied shard + 1 ≤ length (fed shard) = grind (arith, nat_tests, waiting) in
     let before : told past osd ≤ applied shard = h.told_applied in
     record {
-      shard_legal = ((refl, less), h.shard_legal);
+      shard_legal = ((refl, less, refl), h.shard_legal);
       items = h.items;
       told_applied = omega (arith, before);
       applied_pulled = omega (arith, less, size);
@@ -225,9 +225,9 @@ pub in_apply : (w : WorldState) (group osd : ℕ) → AreInStep w → AreInStep 
 in_apply w group osd h =
     let done : List Done = (after_applying w group osd).done in
     let P : Bool → Type 0 = λ v. waits (past_in w.members osd) ≡ v
-    → AreInStep (record w { members = cond v (with_event osd (Applied (applied_by w osd + 1)) w.members) w.members; done = done }) in
+    → AreInStep (record w { members = cond v (with_event osd (applied_next (past_in w.members osd)) w.members) w.members; done = done }) in
     (elim (waits (past_in w.members osd)) as P [
-      | true ↦ λ waiting. one_event w done osd (Applied (applied_by w osd + 1)) h
+      | true ↦ λ waiting. one_event w done osd (applied_next (past_in w.members osd)) h
           (λ member. applied_one w.made w.past osd (past_in w.members osd) h.legal (h.each osd member) waiting)
       | false ↦ λ idle. record { legal = h.legal; named = h.named; each = h.each }
     ]) refl

@@ -7,7 +7,7 @@ use Rattle.std.proofs.lemmas.Grind.{reverse_onto}
 use Rattle.pgs_medium.specs.declared.item.Item.{Item}
 use Rattle.pgs_op_log.specs.Logs.{AreNumbered, newer}
 use Rattle.pgs_history.specs.Facts.{upto}
-use Rattle.pgs_shard.specs.Feeds.{AreNext, beyond}
+use Rattle.pgs_shard_history.specs.Feeds.{AreNext, beyond}
 
 -- an item above the number is passed over
 pub upto_over : (n : ℕ) (item : Item) (items : List Item) → n < item.number → upto n (item ∷ items) ≡ upto n items

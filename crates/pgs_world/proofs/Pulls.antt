@@ -4,7 +4,7 @@ use Rattle.pgs_op_log.specs.Logs.{newer}
 use Rattle.pgs_history.specs.Log.{log}
 use Rattle.pgs_history.specs.Members.{pulled}
 use Rattle.pgs_history.proofs.Ids.{numbered}
-use Rattle.pgs_shard.specs.Feeds.{AreNext, fed}
+use Rattle.pgs_shard_history.specs.Feeds.{AreNext, fed}
 use Rattle.pgs_shards.specs.Members.{past_in}
 use Rattle.pgs_world.specs.State.{WorldState}
 use Rattle.pgs_world.specs.Counts.{is_member, AreInStep}

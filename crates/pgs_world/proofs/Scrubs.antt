@@ -26,9 +26,9 @@ use Rattle.pgs_history.specs.declared.close_answer.CloseAnswer.TheVariants as cl
 use Rattle.pgs_history.specs.declared.event.Event.{Event}
 use Rattle.pgs_history.proofs.Legal.{legal_close}
 use Rattle.pgs_history.proofs.Ids.{numbered, distinct}
-use Rattle.pgs_shard.specs.Listed.{positions}
-use Rattle.pgs_shard.specs.Stores.{applied}
-use Rattle.pgs_shard.proofs.Positions.{are_positions}
+use Rattle.pgs_shard_history.specs.Positions.{positions}
+use Rattle.pgs_shard_history.specs.Stores.{applied}
+use Rattle.pgs_shard_history.proofs.Positions.{are_positions}
 use Rattle.pgs_shards.specs.Members.{Member, past_in}
 use Rattle.pgs_world.specs.State.{WorldState}
 use Rattle.pgs_world.specs.Scrubs.{past_of, held, listed_beside, listed_now, past_opened, opening_said, after_beginning, after_opening, taking, after_taking, all_taken, after_closing, chunk_done}

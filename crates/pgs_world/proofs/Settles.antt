@@ -1,5 +1,6 @@
 -- Steps that are repeated.
-use Rattle.std.proofs.Common.{◌≡◌, ℕ, zero, suc, ◌+◌, ◌<◌, ◌≤◌, ◌==◌, ◌||◌, get_or, drop, true, false, List, [], ◌∷◌, length, refl, sym, ap, ◌∙◌, subst, arith}
+use Rattle.std.proofs.Common.{◌≡◌, ℕ, zero, suc, ◌+◌, ◌-◌, ◌<◌, ◌≤◌, ◌==◌, ◌||◌, get_or, drop, true, false, List, [], ◌∷◌, length, refl, sym, ap, ◌∙◌, subst, arith}
+use Rattle.std.specs.Prelude.{Result, Ok, Err, OnOk}
 use Rattle.std.specs.List.{list_any}
 use Rattle.std.proofs.lemmas.Bool.Decides.{nat_tests}
 use Rattle.std.proofs.lemmas.List.{drop_more, drop_all}
@@ -7,12 +8,24 @@ use Rattle.pgs_world.specs.State.{WorldState}
 use Rattle.pgs_world.specs.Basics.{after_applying, after_pulling}
 use Rattle.pgs_world.specs.Counts.{is_member}
 use Rattle.pgs_world.proofs.Sound.{sound_member}
-use Rattle.pgs_world.specs.Steps.{waiting, applied_times, member_settled, settled}
+use Rattle.pgs_world.specs.Steps.{waiting, applied_times, applied_all, member_settled, settled}
 use Rattle.pgs_world.specs.Sound.{IsSound}
 
 -- applied once more, where so many times are left
 pub times_next : (n left : ℕ) (w : WorldState) (group osd : ℕ) → n ≡ suc left → applied_times n w group osd ≡ applied_times left (after_applying w group osd) group osd
 times_next n left w group osd e = ap (λ m. applied_times m w group osd) e
+
+all_at_once : (old now : WorldState) (waits counter group osd : ℕ) → waits ≡ waiting old osd → waits ≤ counter → applied_times (waits - counter) now group osd ≡ applied_times waits old group osd
+    → after_applying now group osd ≡ applied_all old group osd
+all_at_once old now waits counter group osd is over so_far =
+    let none : waits - counter ≡ 0 = omega (arith, over) in
+    ap (λ w. after_applying w group osd) (sym (ap (λ n. applied_times n now group osd) none) ∙ so_far ∙ ap (λ n. applied_times n old group osd) is)
+
+-- applied as often as items waited, and once more
+pub all_applied : {E : Type 0} (answer : Result Unit E) (old now last : WorldState) (waits counter group osd : ℕ) → OnOk answer (last ≡ after_applying now group osd) → waits ≡ waiting old osd → waits ≤ counter
+    → applied_times (waits - counter) now group osd ≡ applied_times waits old group osd → OnOk answer (last ≡ applied_all old group osd)
+all_applied (Ok done) old now last waits counter group osd e is over so_far = e ∙ all_at_once old now waits counter group osd is over so_far
+all_applied (Err why) old now last waits counter group osd e is over so_far = tt
 
 -- on the way through the members, of which those from a place on are left
 pub record IsSettling (start : WorldState) (group : ℕ) (members : List ℕ) (place : ℕ) (now : WorldState) : Type 0 where

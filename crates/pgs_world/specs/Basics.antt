@@ -1,5 +1,5 @@
 -- What a single step does, and the answer that is kept with it.
-use Rattle.std.specs.Prelude.{ℕ, nat_lt, ◌∷◌, reverse, if◌then◌else◌}
+use Rattle.std.specs.Prelude.{ℕ, nat_lt, ◌∷◌, reverse, None, if◌then◌else◌}
 use Rattle.pgs_lines.specs.Contexts.{meant}
 use Rattle.pgs_lines.specs.declared.object.Object.{Object}
 use Rattle.pgs_lines.specs.declared.snap.Snap.{Snap}
@@ -24,13 +24,13 @@ use Rattle.pgs_history.specs.Log.{log}
 use Rattle.pgs_history.specs.Members.{pulled}
 use Rattle.pgs_history.specs.Answers.{submit_answer, collect_answer, last_number, tell_answer}
 use Rattle.pgs_history.specs.After.{after_submit, after_collect, after_pull, after_tell}
-use Rattle.pgs_shard.specs.Stores.{applied}
+use Rattle.pgs_shard_history.specs.Stores.{applied}
 use Rattle.pgs_shard.specs.declared.applied.Applied.{Applied}
 use Rattle.pgs_shard.specs.declared.applied.Applied.TheVariants as answers
-use Rattle.pgs_shard.specs.declared.event.Event.{Event as ShardEvent}
-use Rattle.pgs_shard.specs.declared.event.Event.TheVariants.{Fed}
-use Rattle.pgs_shard.specs.declared.damage_answer.DamageAnswer.{DamageAnswer}
-use Rattle.pgs_shard.specs.declared.damage_answer.DamageAnswer.TheVariants as damage_answers
+use Rattle.pgs_shard_history.specs.declared.event.Event.{Event as ShardEvent}
+use Rattle.pgs_shard_history.specs.declared.event.Event.TheVariants.{Fed}
+use Rattle.pgs_shard_history.specs.declared.damage_answer.DamageAnswer.{DamageAnswer}
+use Rattle.pgs_shard_history.specs.declared.damage_answer.DamageAnswer.TheVariants as damage_answers
 use Rattle.pgs_lines.specs.declared.damage_answer.DamageAnswer.{DamageAnswer as LineDamageAnswer}
 use Rattle.pgs_lines.specs.declared.damage_answer.DamageAnswer.TheVariants as line_answers
 use Rattle.pgs_request.specs.Payloads.{bytes_of}
@@ -80,7 +80,7 @@ after_collecting w group client serial = record w {
 
 -- an OSD is fed the items that it pulls, where there are some
 abbrev pub given : WorldState → ℕ → ShardEvent
-given w osd = Fed (pulled w.past osd) (reverse (newer (pulled w.past osd) (log w.past)))
+given w osd = Fed (pulled w.past osd) (reverse (newer (pulled w.past osd) (log w.past))) None
 
 abbrev pub after_pulling : WorldState → ℕ → ℕ → WorldState
 after_pulling w group osd = record w {
@@ -104,7 +104,7 @@ after_telling w group osd = record w {
 -- an answer of a shard, as a line says it
 abbrev pub answer_said : Applied → ApplyAnswer
 answer_said (answers.NotYet count) = applies.NotYet count
-answer_said (answers.Applied number) = applies.Applied number
+answer_said (answers.Applied number drops) = applies.Applied number drops
 
 abbrev pub after_applying : WorldState → ℕ → ℕ → WorldState
 after_applying w group osd = record w {
@@ -114,6 +114,7 @@ after_applying w group osd = record w {
 
 abbrev pub damage_said : DamageAnswer → LineDamageAnswer
 damage_said damage_answers.Damaged = line_answers.Damaged
+damage_said damage_answers.BeingRead = line_answers.BeingRead
 damage_said (damage_answers.ShardFull bytes) = line_answers.ShardFull bytes
 
 abbrev pub after_damaging : WorldState → ℕ → ℕ → Object → Snap → LineDamage → WorldState

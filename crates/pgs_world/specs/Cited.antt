@@ -4,8 +4,8 @@ use Rattle.pgs_map.specs.declared.scrub_map.ScrubMap.{ScrubMap}
 use Rattle.pgs_history.specs.Scrubs.{last_kind, is_deep}
 use Rattle.pgs_history.specs.declared.event.Event.{Event}
 use Rattle.pgs_history.specs.declared.event.Event.TheVariants.{Take}
-use Rattle.pgs_shard.specs.Stores.{applied}
-use Rattle.pgs_shard.specs.declared.event.Event.{Event as ShardEvent}
+use Rattle.pgs_shard_history.specs.Stores.{applied}
+use Rattle.pgs_shard_history.specs.declared.event.Event.{Event as ShardEvent}
 use Rattle.pgs_shards.specs.Members.{Member, past_in}
 use Rattle.pgs_shards.specs.Entries.{entries_in}
 

@@ -12,11 +12,12 @@ use Rattle.pgs_history.specs.Facts.{upto, AreDistinct}
 use Rattle.pgs_history.specs.Legal.{IsLegal}
 use Rattle.pgs_history.specs.declared.event.Event.{Event}
 use Rattle.pgs_history.specs.declared.made.Made.{Made}
-use Rattle.pgs_shard.specs.Feeds.{fed}
-use Rattle.pgs_shard.specs.Stores.{applied}
-use Rattle.pgs_shard.specs.Legal.{IsLegal as IsLegalShard}
-use Rattle.pgs_shard.specs.declared.event.Event.{Event as ShardEvent}
+use Rattle.pgs_shard_history.specs.Feeds.{fed}
+use Rattle.pgs_shard_history.specs.Stores.{applied}
+use Rattle.pgs_shard_history.specs.Legal.{IsLegal as IsLegalShard}
+use Rattle.pgs_shard_history.specs.declared.event.Event.{Event as ShardEvent}
 use Rattle.pgs_shards.specs.Members.{past_in}
+use Rattle.pgs_shards.specs.declared.stride.TheConstants.{STRIDE}
 use Rattle.pgs_world.specs.State.{WorldState}
 
 -- an OSD is a member
@@ -26,7 +27,7 @@ is_member made osd = list_any (λ other. other == osd) made.members
 -- A member's history, beside that of its group: it was fed the items of the log up to the number that it pulled, in
 -- order; it applied some of them, from the first on; and it told of no more than it had applied.
 pub record IsInStep (past : List Event) (osd : ℕ) (shard : List ShardEvent) : Type 0 where
-  pub shard_legal : IsLegalShard shard
+  pub shard_legal : IsLegalShard STRIDE shard
   pub items : fed shard ≡ upto (pulled past osd) (log past)
   pub told_applied : told past osd ≤ applied shard
   pub applied_pulled : applied shard ≤ pulled past osd

@@ -34,9 +34,9 @@ use Rattle.pgs_history.specs.declared.open_answer.OpenAnswer.TheVariants as open
 use Rattle.pgs_group.specs.Steps.{close_told}
 use Rattle.pgs_group.specs.declared.close_told.CloseTold.{CloseTold}
 use Rattle.pgs_group.specs.declared.close_told.CloseTold.TheVariants as told
-use Rattle.pgs_shard.specs.Listed.{positions}
-use Rattle.pgs_shard.specs.Stores.{applied}
-use Rattle.pgs_shard.specs.declared.event.Event.{Event as ShardEvent}
+use Rattle.pgs_shard_history.specs.Positions.{positions}
+use Rattle.pgs_shard_history.specs.Stores.{applied}
+use Rattle.pgs_shard_history.specs.declared.event.Event.{Event as ShardEvent}
 use Rattle.pgs_shards.specs.Members.{past_in}
 use Rattle.pgs_shards.specs.Entries.{entries_in}
 use Rattle.pgs_world.specs.State.{WorldState}

@@ -2,7 +2,7 @@
 use Rattle.std.specs.Prelude.{ℕ, zero, suc, ◌-◌, List, [], ◌∷◌, length}
 use Rattle.pgs_lines.specs.declared.step.Step.{Step}
 use Rattle.pgs_lines.specs.declared.step.Step.TheVariants as steps
-use Rattle.pgs_shard.specs.Feeds.{fed}
+use Rattle.pgs_shard_history.specs.Feeds.{fed}
 use Rattle.pgs_shards.specs.Members.{past_in}
 use Rattle.pgs_world.specs.State.{WorldState}
 use Rattle.pgs_world.specs.Basics.{after_basic, after_pulling, after_applying, after_telling, applied_by}

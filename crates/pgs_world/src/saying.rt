@@ -10,7 +10,7 @@ use pgs_history::{BeginAnswer, Chunk, OpenAnswer};
 use pgs_lines::Object;
 use pgs_name::Family;
 use pgs_range::{Bound, FamilyRange};
-use pgs_shard::DamageAnswer;
+use pgs_shard_history::DamageAnswer;
 use std::alloc::{AllocError, Global};
 
 fn object_of(alloc: Global, family: &Family) -> Result<Object, AllocError>
@@ -108,6 +108,7 @@ pub fn damage_said(answer: DamageAnswer) -> pgs_lines::DamageAnswer
 {
     match answer {
         DamageAnswer::Damaged => pgs_lines::DamageAnswer::Damaged,
+        DamageAnswer::BeingRead => pgs_lines::DamageAnswer::BeingRead,
         DamageAnswer::ShardFull { bytes } => pgs_lines::DamageAnswer::ShardFull { bytes },
     }
 }

@@ -16,7 +16,8 @@ use pgs_group::Group;
 use pgs_history::Made;
 use pgs_lines::{ApplyAnswer, Basic, Context, Damage, Done, Object, Snap, Step};
 use pgs_request::{Op, ReqId};
-use pgs_shard::{Applied, DamageAnswer};
+use pgs_shard::Applied;
+use pgs_shard_history::DamageAnswer;
 use pgs_shards::Shards;
 use sqlite_items::Items;
 use std::alloc::{AllocError, Global};
@@ -134,7 +135,7 @@ impl World {
         let from = pulled.from;
         let to = pulled.to;
         if from < to {
-            self.shards.feed(osd, from, pulled.items)?;
+            self.shards.feed(osd, from, pulled.items, None)?;
         }
         self.done.push_reserved(Done::Pull {
             group,
@@ -255,7 +256,7 @@ impl World {
     }
 
     // A member applies its items until none waits.
-    #[tactic(auto, using(crate::proofs::Settles::times_next))]
+    #[tactic(auto, using(crate::proofs::Settles::times_next, crate::proofs::Settles::all_applied))]
     fn apply_all(&mut self, group: u32, osd: u32) -> Result<(), AllocError>
         ensures { OnOk result (self.new ≡ steps.applied_all self.old group osd) }
     {
@@ -344,6 +345,6 @@ fn answer_of(applied: Applied) -> ApplyAnswer
 {
     match applied {
         Applied::NotYet { applied } => ApplyAnswer::NotYet { applied },
-        Applied::Applied { number } => ApplyAnswer::Applied { number },
+        Applied::Applied { number, drops } => ApplyAnswer::Applied { number, drops },
     }
 }

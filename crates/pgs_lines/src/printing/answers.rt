@@ -91,12 +91,37 @@ pub fn push_collected(
     }
 }
 
+// Appends the chunk whose scan or map an item dropped, if it did.
+#[tactic(auto, using(crate::proofs::Behind::joins))]
+fn push_drop(alloc: Global, drops: Option<u64>, out: &mut Vec<u8>) -> Result<(), AllocError>
+    ensures { OnOk result (out.new.items ≡ out.old.items ++ behind (done.drop_words drops)) }
+{
+    match drops {
+        Some(chunk) => push_count(alloc, b"drops", chunk, out),
+        None => Ok(()),
+    }
+}
+
+// Appends the number of an item, with what it dropped.
+#[tactic(auto, using(crate::proofs::Behind::joins))]
+fn push_item(
+    alloc: Global,
+    number: u64,
+    drops: Option<u64>,
+    out: &mut Vec<u8>,
+) -> Result<(), AllocError>
+    ensures { OnOk result (out.new.items ≡ out.old.items ++ behind (codes "applied" ∷ decimal number ∷ done.drop_words drops)) }
+{
+    push_count(alloc, b"applied", number, out)?;
+    push_drop(alloc, drops, out)
+}
+
 /// Appends what an `apply` was answered.
 pub fn push_applied(alloc: Global, answer: ApplyAnswer, out: &mut Vec<u8>) -> Result<(), AllocError>
     ensures { OnOk result (out.new.items ≡ out.old.items ++ behind (done.apply_words answer)) }
 {
     match answer {
-        ApplyAnswer::Applied { number } => push_count(alloc, b"applied", number, out),
+        ApplyAnswer::Applied { number, drops } => push_item(alloc, number, drops, out),
         ApplyAnswer::NotYet { applied } => push_count(alloc, b"not-yet", applied, out),
         ApplyAnswer::DeviceFault { count } => push_count(alloc, b"device-fault", count, out),
     }

@@ -47,6 +47,7 @@ pub fn push_damaged(
 {
     match answer {
         DamageAnswer::Damaged => push_word(b"damaged", out),
+        DamageAnswer::BeingRead => push_word(b"being-read", out),
         DamageAnswer::ShardFull { bytes } => push_count(alloc, b"shard-full", bytes, out),
     }
 }

@@ -152,8 +152,16 @@ fn applies(rt: HostRuntime) -> Result<(), Fail> {
         (
             ApplyAnswer::Applied {
                 number: 18_446_744_073_709_551_615,
+                drops: None,
             },
             b"apply 0 5 : applied 18446744073709551615".as_slice(),
+        ),
+        (
+            ApplyAnswer::Applied {
+                number: 4,
+                drops: Some(2),
+            },
+            b"apply 0 5 : applied 4 drops 2".as_slice(),
         ),
         (
             ApplyAnswer::NotYet { applied: 3 },

@@ -2,4 +2,3 @@
 mod calls;
 mod scrubs;
 mod seen;
-mod steps;

@@ -4,7 +4,7 @@ use Rattle.pgs_medium.specs.Ram.{device_of}
 use Rattle.pgs_range.specs.Listed.{IsNext}
 use Rattle.pgs_range.specs.declared.cursor.Cursor.TheVariants.{After}
 use Rattle.pgs_store.specs.Stores.{is_stored}
-use Rattle.pgs_shard.specs.Stores.{stored_by}
+use Rattle.pgs_shard_history.specs.Stores.{stored_by}
 use Rattle.pgs_shards.proofs.Made.{IsMade, made_more}
 use Rattle.pgs_shards.proofs.entries.entries_of.Goals as goal
 

@@ -1,6 +1,6 @@
-use crate::tests::group::making::{REQUEST, made, write, write_with};
+use crate::tests::group::making::{REQUEST, made, write};
 use pgs_group::{Answer, Counts, Group, Step};
-use pgs_request::{CollectAnswer, Declined, SnapContext, Snaps, Version, WriteAnswer};
+use pgs_request::{CollectAnswer, Version};
 use std::alloc::{AllocError, Global};
 use std::test::Fail;
 
@@ -16,21 +16,6 @@ fn written(alloc: Global) -> Result<Group, AllocError> {
     let write = write(alloc)?;
     group.submit(write)?;
     Ok(group)
-}
-
-// The same write again.
-fn repeated(alloc: Global) -> Result<WriteAnswer, AllocError> {
-    let mut group = written(alloc)?;
-    let write = write(alloc)?;
-    group.submit(write)
-}
-
-#[test]
-fn a_write_sent_again(rt: HostRuntime) -> Result<(), Fail> {
-    let answer = repeated(rt.alloc())?;
-    let declined = Declined::Repeat { version: VERSION };
-    assert!(rt; answer == WriteAnswer::Declined { declined });
-    Ok(())
 }
 
 // What a client is answered where a member pulled, and so many told.
@@ -51,24 +36,6 @@ fn acknowledged_once_all_told(rt: HostRuntime) -> Result<(), Fail> {
     assert!(rt; collected(alloc, 0)? == CollectAnswer::NotYet { osd: 2, told: 0 });
     assert!(rt; collected(alloc, 1)? == CollectAnswer::NotYet { osd: 0, told: 0 });
     assert!(rt; collected(alloc, 2)? == CollectAnswer::Acked { version: VERSION });
-    Ok(())
-}
-
-// A write whose second snap isn't below its first.
-fn misplaced(alloc: Global) -> Result<WriteAnswer, AllocError> {
-    let made = made(alloc)?;
-    let mut group = Group::new(alloc, made);
-    let snaps = vec![in alloc; 3, 3]?;
-    let snaps = Snaps::from_vec(snaps);
-    let write = write_with(alloc, SnapContext { seq: 5, snaps })?;
-    group.submit(write)
-}
-
-#[test]
-fn a_snap_that_is_not_below_the_one_before(rt: HostRuntime) -> Result<(), Fail> {
-    let answer = misplaced(rt.alloc())?;
-    let declined = Declined::BadSnapContext { place: 1 };
-    assert!(rt; answer == WriteAnswer::Declined { declined });
     Ok(())
 }
 

@@ -22,7 +22,7 @@ fn fed(alloc: Global) -> Result<(u64, u64, u64), AllocError> {
     };
     let mut items = Items::new(alloc);
     items.push(item)?;
-    shards.feed(0, 0, items)?;
+    shards.feed(0, 0, items, None)?;
     let waiting = shards.waiting(0);
     shards.apply_next(0)?;
     Ok((waiting, shards.applied(0), shards.applied(2)))

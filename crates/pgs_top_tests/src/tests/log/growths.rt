@@ -37,11 +37,6 @@ fn write(alloc: Global, at: u32, piece: &[u8]) -> Result<(u64, Effect), AllocErr
     Ok((HEAD, Effect::Write { at, bytes }))
 }
 
-fn rm_omap(alloc: Global, key: &[u8]) -> Result<(u64, Effect), AllocError> {
-    let key = text(alloc, key)?;
-    Ok((HEAD, Effect::RmOmap { key }))
-}
-
 fn grows(
     alloc: Global,
     effects: Vec<(u64, Effect)>,
@@ -60,26 +55,5 @@ fn data_written_and_an_attribute_replaced(rt: HostRuntime) -> Result<(), Fail> {
         added: 16,
     };
     assert!(rt; grows(alloc, effects, Some(wanted))?);
-    Ok(())
-}
-
-#[test]
-fn keys_taken_away(rt: HostRuntime) -> Result<(), Fail> {
-    let alloc = rt.alloc();
-    let there = vec![in alloc; rm_omap(alloc, b"key")?]?;
-    assert!(rt; grows(alloc, there, Some(Growth { taken: 8, added: 0 }))?);
-    let missing = vec![in alloc; rm_omap(alloc, b"_")?]?;
-    assert!(rt; grows(alloc, missing, Some(Growth { taken: 0, added: 0 }))?);
-    Ok(())
-}
-
-#[test]
-fn two_edits_of_one_part(rt: HostRuntime) -> Result<(), Fail> {
-    let alloc = rt.alloc();
-    let twice = vec![in alloc;
-        set_attr(alloc, b"_", b"newer")?,
-        set_attr(alloc, b"_", b"newest")?,
-    ]?;
-    assert!(rt; grows(alloc, twice, None)?);
     Ok(())
 }

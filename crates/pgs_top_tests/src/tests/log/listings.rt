@@ -92,13 +92,3 @@ fn a_listing_below_a_bound(rt: HostRuntime) -> Result<(), Fail> {
     assert!(rt; gives(&mut device, &Cursor::At { bound: to }, b"d", 3));
     Ok(())
 }
-
-#[test]
-fn a_failing_listing(rt: HostRuntime) -> Result<(), Fail> {
-    let mut device = device(rt.alloc(), 2)?;
-    assert!(rt; gives(&mut device, &start(), b"a", 5));
-    assert!(rt; !gives(&mut device, &start(), b"a", 5));
-    assert_eq!(rt; device.faults(), 1);
-    assert!(rt; gives(&mut device, &start(), b"a", 5));
-    Ok(())
-}

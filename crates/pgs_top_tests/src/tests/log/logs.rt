@@ -52,23 +52,6 @@ fn full_log(alloc: Global) -> Result<GroupLog, LogError> {
     Ok(log)
 }
 
-// What a fourth item is answered, of a new request and of a repeat.
-fn fourth(alloc: Global, serial: u32) -> Result<(), LogError> {
-    let mut log = full_log(alloc)?;
-    append(alloc, &mut log, b"d", request(serial), 1)
-}
-
-#[test]
-fn a_full_log(rt: HostRuntime) -> Result<(), Fail> {
-    let refused = matches!(
-        fourth(rt.alloc(), 10),
-        Err(LogError::LogFull { bytes: 16_777_217 })
-    );
-    assert!(rt; refused);
-    assert!(rt; fourth(rt.alloc(), 8).is_ok());
-    Ok(())
-}
-
 #[test]
 fn a_log(rt: HostRuntime) -> Result<(), Fail> {
     let log = full_log(rt.alloc()).ok().ok_or("a log")?;

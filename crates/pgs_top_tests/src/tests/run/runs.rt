@@ -46,49 +46,6 @@ fn one_run(rt: HostRuntime) -> Result<(), Fail> {
     Ok(())
 }
 
-// Each read of a run fails once: nothing is written.
-#[test]
-fn each_read_fails_once(rt: HostRuntime) -> Result<(), Fail> {
-    let alloc = rt.alloc();
-    for number in 1..5u64 {
-        let (status, sink) = run(alloc, SCRIPT, vec![in alloc; number]?, Vec::new(alloc))?;
-        assert_eq!(rt; status.number(), 4);
-        assert_eq!(rt; sink.taken().len(), 0);
-    }
-    Ok(())
-}
-
-// Each write of a run fails once: a front is written.
-#[test]
-fn each_write_fails_once(rt: HostRuntime) -> Result<(), Fail> {
-    let alloc = rt.alloc();
-    for number in 1..7u64 {
-        let (status, sink) = run(alloc, SCRIPT, Vec::new(alloc), vec![in alloc; number]?)?;
-        assert_eq!(rt; status.number(), 5);
-        let taken = (number as usize - 1) * 100;
-        assert_eq!(rt; sink.taken(), &WRITTEN[..taken.min(WRITTEN.len())]);
-    }
-    Ok(())
-}
-
-#[test]
-fn refusals(rt: HostRuntime) -> Result<(), Fail> {
-    let alloc = rt.alloc();
-    let rows = [
-        (b"end\n".as_slice(), "Ok"),
-        (b"".as_slice(), "BadLine 1"),
-        (b"end\n\n".as_slice(), "BadLine 2"),
-        (b"pool 0\nosd 0 1\nosd".as_slice(), "BadLine 3"),
-        (b"# pool\n\npool 0\n osd\n".as_slice(), "BadLine 4"),
-        (b"pool 0\nosd 64 1\n".as_slice(), "Limit 2"),
-    ];
-    for (text, wanted) in rows {
-        let (status, _) = run(alloc, text, Vec::new(alloc), Vec::new(alloc))?;
-        assert_eq!(rt; format!(in alloc; "{status}")?.as_str(), wanted);
-    }
-    Ok(())
-}
-
 // The status of a run without words.
 fn without_words(alloc: Global) -> Result<u8, AllocError> {
     let text = Bytes::from_slice(alloc, b"end\n")?;

@@ -3,7 +3,7 @@ ghost use Rattle.std.specs.Prelude.{IfOk};
 ghost use Rattle.pgs_chunk.specs.Positions.{Ascends};
 ghost use Rattle.pgs_map.specs.Entries.{AreInRange};
 
-use crate::making::{DIGEST, entry, head, heads, last_head, made, map_of, written};
+use crate::making::{DIGEST, entry, head, heads, made, map_of, written};
 use pgs_chunk::Kind;
 use pgs_group::{CloseTold, Group, NextChunk};
 use pgs_history::{BeginAnswer, OpenAnswer, TakeAnswer};
@@ -96,8 +96,8 @@ fn submit(alloc: Global, group: &mut Group, name: &[u8], serial: u32) -> Result<
 }
 
 /// A group with two written objects, a and then b.
-pub fn with_writes(alloc: Global, preemptions: u32) -> Result<Group, Fail> {
-    let made = made(alloc, preemptions)?;
+pub fn with_writes(alloc: Global) -> Result<Group, Fail> {
+    let made = made(alloc)?;
     let mut group = Group::new(alloc, made);
     submit(alloc, &mut group, b"a", 1)?;
     submit(alloc, &mut group, b"b", 2)?;
@@ -106,7 +106,7 @@ pub fn with_writes(alloc: Global, preemptions: u32) -> Result<Group, Fail> {
 
 /// One whose first scrub runs.
 pub fn scrubbed(alloc: Global) -> Result<Group, Fail> {
-    let mut group = with_writes(alloc, 5)?;
+    let mut group = with_writes(alloc)?;
     begin(&mut group)?;
     Ok(group)
 }
@@ -114,12 +114,6 @@ pub fn scrubbed(alloc: Global) -> Result<Group, Fail> {
 /// Opens a chunk, where both heads are listed.
 pub fn open_heads(alloc: Global, group: &mut Group) -> Result<Option<OpenAnswer>, Fail> {
     let listed = heads(alloc)?;
-    open(group, listed)
-}
-
-/// Opens a chunk, where the last head is listed.
-pub fn open_last(alloc: Global, group: &mut Group) -> Result<Option<OpenAnswer>, Fail> {
-    let listed = last_head(alloc)?;
     open(group, listed)
 }
 
@@ -155,25 +149,5 @@ pub fn with_maps(alloc: Global, digest: u32) -> Result<Group, Fail> {
 pub fn past_first(alloc: Global) -> Result<Group, Fail> {
     let mut group = with_maps(alloc, DIGEST)?;
     close(&mut group, 1)?;
-    Ok(group)
-}
-
-/// Opens the second chunk, and gives its maps.
-pub fn go_on(alloc: Global, group: &mut Group) -> Result<(), Fail> {
-    open_last(alloc, group)?;
-    take_all(alloc, group, 2, b"b", DIGEST)
-}
-
-/// One that has all maps of its second chunk.
-pub fn with_last_maps(alloc: Global) -> Result<Group, Fail> {
-    let mut group = past_first(alloc)?;
-    go_on(alloc, &mut group)?;
-    Ok(group)
-}
-
-/// One whose first scrub is complete.
-pub fn completed(alloc: Global) -> Result<Group, Fail> {
-    let mut group = with_last_maps(alloc)?;
-    close(&mut group, 2)?;
     Ok(group)
 }

@@ -1,18 +1,16 @@
 use crate::making::DIGEST;
 use crate::tests::scrub::calls::{
-    OTHER, begin, close, completed, go_on, next_chunk, open_heads, open_last, past_first, scrubbed,
-    take, with_first, with_last_maps, with_maps, with_writes,
+    OTHER, begin, close, next_chunk, open_heads, past_first, scrubbed, take, with_first, with_maps,
+    with_writes,
 };
-use crate::tests::scrub::seen::{
-    Numbers, already, firm, lies, open_now, opened, primary_and_limit, starts,
-};
+use crate::tests::scrub::seen::{Numbers, firm, lies, open_now, opened, primary_and_limit, starts};
 use pgs_group::{CloseTold, NextChunk};
 use pgs_history::{BeginAnswer, OpenAnswer, TakeAnswer};
 use std::alloc::Global;
 use std::test::Fail;
 
 fn first_begun(alloc: Global) -> Result<BeginAnswer, Fail> {
-    let mut group = with_writes(alloc, 5)?;
+    let mut group = with_writes(alloc)?;
     begin(&mut group)
 }
 
@@ -21,9 +19,9 @@ fn begun_again(alloc: Global) -> Result<BeginAnswer, Fail> {
     begin(&mut group)
 }
 
-fn begun_later(alloc: Global) -> Result<BeginAnswer, Fail> {
-    let mut group = completed(alloc)?;
-    begin(&mut group)
+fn running_now(alloc: Global) -> Result<Option<u64>, Fail> {
+    let group = scrubbed(alloc)?;
+    Ok(group.running())
 }
 
 #[test]
@@ -31,43 +29,13 @@ fn scrubs_begin_in_turn(rt: HostRuntime) -> Result<(), Fail> {
     let alloc = rt.alloc();
     assert!(rt; first_begun(alloc)? == BeginAnswer::Began { serial: 1 });
     assert!(rt; begun_again(alloc)? == BeginAnswer::Busy { serial: 1 });
-    assert!(rt; begun_later(alloc)? == BeginAnswer::Began { serial: 2 });
+    assert_eq!(rt; running_now(alloc)?, Some(1));
     Ok(())
-}
-
-fn running_now(alloc: Global) -> Result<Option<u64>, Fail> {
-    let group = scrubbed(alloc)?;
-    Ok(group.running())
-}
-
-fn running_later(alloc: Global) -> Result<Option<u64>, Fail> {
-    let group = completed(alloc)?;
-    Ok(group.running())
-}
-
-#[test]
-fn none_runs_once_complete(rt: HostRuntime) -> Result<(), Fail> {
-    assert_eq!(rt; running_now(rt.alloc())?, Some(1));
-    assert_eq!(rt; running_later(rt.alloc())?, None);
-    Ok(())
-}
-
-fn first_next(alloc: Global) -> Result<Option<NextChunk>, Fail> {
-    let group = scrubbed(alloc)?;
-    next_chunk(&group)
 }
 
 fn second_next(alloc: Global) -> Result<Option<NextChunk>, Fail> {
     let group = past_first(alloc)?;
     next_chunk(&group)
-}
-
-#[test]
-fn where_the_first_chunk_begins(rt: HostRuntime) -> Result<(), Fail> {
-    let next = first_next(rt.alloc())?;
-    assert_eq!(rt; primary_and_limit(&next), Some((0, 1)));
-    assert!(rt; starts(&next, b"-"));
-    Ok(())
 }
 
 #[test]
@@ -78,44 +46,19 @@ fn where_the_second_chunk_begins(rt: HostRuntime) -> Result<(), Fail> {
     Ok(())
 }
 
-fn first_opened(alloc: Global, preemptions: u32) -> Result<Option<OpenAnswer>, Fail> {
-    let mut group = with_writes(alloc, preemptions)?;
+fn first_opened(alloc: Global) -> Result<Option<OpenAnswer>, Fail> {
+    let mut group = with_writes(alloc)?;
     begin(&mut group)?;
     open_heads(alloc, &mut group)
 }
 
-fn second_opened(alloc: Global) -> Result<Option<OpenAnswer>, Fail> {
-    let mut group = past_first(alloc)?;
-    open_last(alloc, &mut group)
-}
-
 #[test]
 fn the_first_chunk(rt: HostRuntime) -> Result<(), Fail> {
-    let answer = first_opened(rt.alloc(), 5)?;
+    let answer = first_opened(rt.alloc())?;
     assert_eq!(rt; opened(&answer), Some((1, 1, 1, 1)));
     assert_eq!(rt; firm(&answer), Some(false));
     assert!(rt; lies(&answer, b"-", b"b"));
     Ok(())
-}
-
-#[test]
-fn the_second_chunk(rt: HostRuntime) -> Result<(), Fail> {
-    let answer = second_opened(rt.alloc())?;
-    assert_eq!(rt; opened(&answer), Some((2, 1, 2, 1)));
-    assert!(rt; lies(&answer, b"b", b"+"));
-    Ok(())
-}
-
-#[test]
-fn firm_with_no_preemption(rt: HostRuntime) -> Result<(), Fail> {
-    let answer = first_opened(rt.alloc(), 0)?;
-    assert_eq!(rt; firm(&answer), Some(true));
-    Ok(())
-}
-
-fn opened_again(alloc: Global) -> Result<Option<OpenAnswer>, Fail> {
-    let mut group = with_first(alloc)?;
-    open_heads(alloc, &mut group)
 }
 
 fn chunks_now(alloc: Global) -> Result<(u64, Option<Numbers>), Fail> {
@@ -125,8 +68,6 @@ fn chunks_now(alloc: Global) -> Result<(u64, Option<Numbers>), Fail> {
 
 #[test]
 fn one_chunk_is_open(rt: HostRuntime) -> Result<(), Fail> {
-    let answer = opened_again(rt.alloc())?;
-    assert_eq!(rt; already(&answer), Some(1));
     let (last, now) = chunks_now(rt.alloc())?;
     assert_eq!(rt; last, 1);
     assert_eq!(rt; now, Some((1, 1, 1, 1)));
@@ -139,17 +80,11 @@ fn taken(alloc: Global, chunk: u64) -> Result<TakeAnswer, Fail> {
     take(alloc, &mut group, 0, chunk, b"a", DIGEST)
 }
 
-fn taken_early(alloc: Global) -> Result<TakeAnswer, Fail> {
-    let mut group = scrubbed(alloc)?;
-    take(alloc, &mut group, 0, 1, b"a", DIGEST)
-}
-
 #[test]
 fn maps_of_the_open_chunk(rt: HostRuntime) -> Result<(), Fail> {
     let alloc = rt.alloc();
     assert!(rt; taken(alloc, 1)? == TakeAnswer::Taken);
     assert!(rt; taken(alloc, 2)? == TakeAnswer::Stale { chunk_now: Some(1) });
-    assert!(rt; taken_early(alloc)? == TakeAnswer::Stale { chunk_now: None });
     Ok(())
 }
 
@@ -164,11 +99,6 @@ fn closed(alloc: Global, digest: u32) -> Result<CloseTold, Fail> {
     close(&mut group, 1)
 }
 
-fn closed_last(alloc: Global) -> Result<CloseTold, Fail> {
-    let mut group = with_last_maps(alloc)?;
-    close(&mut group, 2)
-}
-
 #[test]
 fn chunks_close(rt: HostRuntime) -> Result<(), Fail> {
     let alloc = rt.alloc();
@@ -179,23 +109,6 @@ fn chunks_close(rt: HostRuntime) -> Result<(), Fail> {
         completes: false,
     };
     assert!(rt; closed(alloc, DIGEST)? == first);
-    let last = CloseTold::Closed {
-        findings: 0,
-        snaps: 0,
-        completes: true,
-    };
-    assert!(rt; closed_last(alloc)? == last);
-    Ok(())
-}
-
-#[test]
-fn another_digest_is_a_finding(rt: HostRuntime) -> Result<(), Fail> {
-    let wanted = CloseTold::Closed {
-        findings: 1,
-        snaps: 0,
-        completes: false,
-    };
-    assert!(rt; closed(rt.alloc(), OTHER)? == wanted);
     Ok(())
 }
 
@@ -206,34 +119,10 @@ fn kept(alloc: Global, digest: u32) -> Result<usize, Fail> {
     Ok(group.findings().list().len())
 }
 
-// The same once the second chunk is closed too, at which nothing is found.
-fn kept_later(alloc: Global, digest: u32) -> Result<usize, Fail> {
-    let mut group = with_maps(alloc, digest)?;
-    close(&mut group, 1)?;
-    go_on(alloc, &mut group)?;
-    close(&mut group, 2)?;
-    Ok(group.findings().list().len())
-}
-
 #[test]
 fn findings_are_kept(rt: HostRuntime) -> Result<(), Fail> {
     let alloc = rt.alloc();
     assert_eq!(rt; kept(alloc, DIGEST)?, 0);
     assert_eq!(rt; kept(alloc, OTHER)?, 1);
-    assert_eq!(rt; kept_later(alloc, OTHER)?, 1);
-    Ok(())
-}
-
-// The answer to a close where the first chunk is closed.
-fn closed_later(alloc: Global, chunk: u64) -> Result<CloseTold, Fail> {
-    let mut group = past_first(alloc)?;
-    close(&mut group, chunk)
-}
-
-#[test]
-fn no_chunk_closes_twice(rt: HostRuntime) -> Result<(), Fail> {
-    let alloc = rt.alloc();
-    assert!(rt; closed_later(alloc, 1)? == CloseTold::ClosedBefore);
-    assert!(rt; closed_later(alloc, 9)? == CloseTold::NoChunk);
     Ok(())
 }

@@ -28,14 +28,6 @@ pub fn starts(next: &Option<NextChunk>, name: &[u8]) -> bool {
     }
 }
 
-/// The number of the chunk that was open already.
-pub fn already(answer: &Option<OpenAnswer>) -> Option<u64> {
-    match answer {
-        Some(OpenAnswer::Already { chunk }) => Some(*chunk),
-        _ => None,
-    }
-}
-
 /// A chunk's number, that of its scrub, its version and its limit.
 pub type Numbers = (u64, u64, u64, u32);
 

@@ -1,0 +1,5 @@
+-- Laws of histories.
+pub mod Feeds
+pub mod Laws
+pub mod Positions
+pub mod Scans
