@@ -8,6 +8,4 @@ mod many;
 #[cfg(test)]
 mod reading;
 #[cfg(test)]
-mod scanning;
-#[cfg(test)]
 mod tests;
