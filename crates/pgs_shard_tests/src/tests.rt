@@ -4,11 +4,10 @@ ghost use Rattle.pgs_medium.specs.Ram.{device_of};
 ghost use Rattle.pgs_shard_history.specs.Feeds.{AreNext};
 
 use pgs_bytes::Bytes;
-use pgs_copy::{Damage, Effect};
+use pgs_copy::Effect;
 use pgs_medium::{CallKind, FailingCall, Item, Medium, RamMedium};
 use pgs_name::{Family, HEAD};
 use pgs_shard::{Applied, ApplyError, Shard};
-use pgs_shard_history::{DamageAnswer, Event};
 use sqlite_items::Items;
 use std::alloc::{AllocError, Global};
 use std::test::Fail;
@@ -84,25 +83,5 @@ fn a_failed_write_leaves_the_item_waiting(rt: HostRuntime) -> Result<(), Fail> {
     assert!(rt; head(&shard, &family).is_none());
     let applied = shard.apply_next();
     assert!(rt; matches!(&applied, Ok(Applied::Applied { number: 1, .. })));
-    Ok(())
-}
-
-#[test]
-fn items_are_applied_and_a_copy_is_damaged(rt: HostRuntime) -> Result<(), Fail> {
-    let alloc = rt.alloc();
-    let mut shard = shard(alloc)?;
-    let family = family(alloc)?;
-    for _ in 0..3 {
-        let _ = shard.apply_next();
-    }
-    let applied = shard.apply_next();
-    assert!(rt; matches!(&applied, Ok(Applied::NotYet { applied: 2 })));
-    let answer = shard.damage(family.clone()?, HEAD, Damage::Flip { at: 8, xor: 1 })?;
-    assert!(rt; answer == DamageAnswer::Damaged);
-    let bytes = head(&shard, &family).ok_or("a head")?;
-    assert_eq!(rt; bytes.as_slice(), b"123456788".as_slice());
-    assert_eq!(rt; (shard.osd(), shard.fed_count()), (3, 2));
-    assert_eq!(rt; shard.events().len(), 5);
-    assert!(rt; matches!(shard.events().get(1), Some(Event::DeviceFault { count: 1 })));
     Ok(())
 }
