@@ -1,6 +1,11 @@
 -- Laws of groups.
 pub mod Accepted
+pub mod Admissions
 pub mod Finds
+pub mod Makes
 pub mod Maps
+pub mod Outcomes
+pub mod Parking
 pub mod Scrubs
-pub mod WhyLaws
+pub mod Used
+pub mod Weighing

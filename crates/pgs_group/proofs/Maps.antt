@@ -1,8 +1,7 @@
 -- The maps that were taken, and their positions.
-use Rattle.std.proofs.Common.{ℕ, ◌≡◌, ◌+◌, ◌<◌, ◌≤◌, ◌==◌, ◌&&◌, ◌||◌, Bool, true, false, cond, List, [], ◌∷◌, ◌++◌, length, take, drop, get_or, reverse, Option, Some, None, refl, sym, ap, ◌∙◌, subst}
+use Rattle.std.proofs.Common.{ℕ, ◌≡◌, ◌+◌, ◌<◌, ◌≤◌, ◌==◌, ◌&&◌, true, false, cond, List, [], ◌∷◌, ◌++◌, length, take, drop, get_or, reverse, Option, Some, None, refl, sym, ap, ◌∙◌, subst}
 use Rattle.std.proofs.lemmas.List.{append_assoc, append-nil, take_more, drop_more, drop_all, reverse-append}
 use Rattle.pgs_bytes.proofs.Facts.{none_some, some_same}
-use Rattle.pgs_name.specs.declared.object_id.ObjectId.{ObjectId}
 use Rattle.std.specs.Borrow.{Bor}
 use Rattle.pgs_compare.specs.Parts.{maps_seen}
 use Rattle.pgs_compare.specs.Report.{AreOrdered as AreMapsOrdered}
@@ -13,7 +12,7 @@ use Rattle.pgs_history.specs.Answers.{with_map, maps_of}
 use Rattle.pgs_history.specs.Chunks.{AreOrdered}
 use Rattle.pgs_history.specs.declared.take_answer.TakeAnswer.TheVariants.{Stale, Taken}
 use Rattle.pgs_history.specs.declared.event.Event.{Event}
-use Rattle.pgs_history.specs.declared.event.Event.TheVariants.{Submit, Collect, Pull, Tell, Begin, Open, Take, Close}
+use Rattle.pgs_history.specs.declared.event.Event.TheVariants.{Submit, Admit, Collect, Pull, Tell, Begin, Open, Take, Close}
 
 -- ---- looked for from the newest event on
 
@@ -31,9 +30,10 @@ given (Take place m Taken) chunk osd before map e =
       | false ↦ λ none. absurd (none_some map none)
     ]) e
 given (Take place m (Stale now)) chunk osd before map e = absurd (none_some map e)
+given (Admit write answer) chunk osd before map e = absurd (none_some map e)
 given (Submit write answer) chunk osd before map e = absurd (none_some map e)
 given (Collect id version) chunk osd before map e = absurd (none_some map e)
-given (Pull o from to) chunk osd before map e = absurd (none_some map e)
+given (Pull o from to asked) chunk osd before map e = absurd (none_some map e)
 given (Tell o applied) chunk osd before map e = absurd (none_some map e)
 given (Begin kind answer) chunk osd before map e = absurd (none_some map e)
 given (Open serial listed answer) chunk osd before map e = absurd (none_some map e)
@@ -46,9 +46,10 @@ not_given (Take place m Taken) chunk osd before e =
       | false ↦ λ none. refl
     ]) e
 not_given (Take place m (Stale now)) chunk osd before e = refl
+not_given (Admit write answer) chunk osd before e = refl
 not_given (Submit write answer) chunk osd before e = refl
 not_given (Collect id version) chunk osd before e = refl
-not_given (Pull o from to) chunk osd before e = refl
+not_given (Pull o from to asked) chunk osd before e = refl
 not_given (Tell o applied) chunk osd before e = refl
 not_given (Begin kind answer) chunk osd before e = refl
 not_given (Open serial listed answer) chunk osd before e = refl
@@ -74,9 +75,10 @@ in_order (Take place m Taken ∷ past) chunk osd map h e =
       | false ↦ λ rest. in_order past chunk osd map h.1 rest
     ]) e
 in_order (Take place m (Stale now) ∷ past) chunk osd map h e = in_order past chunk osd map h.1 e
+in_order (Admit write answer ∷ past) chunk osd map h e = in_order past chunk osd map h.1 e
 in_order (Submit write answer ∷ past) chunk osd map h e = in_order past chunk osd map h.1 e
 in_order (Collect id version ∷ past) chunk osd map h e = in_order past chunk osd map h.1 e
-in_order (Pull o from to ∷ past) chunk osd map h e = in_order past chunk osd map h.1 e
+in_order (Pull o from to asked ∷ past) chunk osd map h e = in_order past chunk osd map h.1 e
 in_order (Tell o applied ∷ past) chunk osd map h e = in_order past chunk osd map h.1 e
 in_order (Begin kind answer ∷ past) chunk osd map h e = in_order past chunk osd map h.1 e
 in_order (Open serial listed answer ∷ past) chunk osd map h e = in_order past chunk osd map h.1 e

@@ -1,6 +1,6 @@
 -- Where the scrubs of a group are, by its events.
 use Rattle.std.specs.Prelude.{List, None, if◌then◌else◌}
-use Rattle.pgs_history.specs.Scrubs.{begun, running, opened, open_chunk, start, end_of, last_kind}
+use Rattle.pgs_history.specs.Scrubs.{begun, running, opened, open_chunk, start, used, end_of, last_kind}
 use Rattle.pgs_history.specs.Answers.{is_last}
 use Rattle.pgs_history.specs.Findings.{findings}
 use Rattle.pgs_history.specs.declared.event.Event.{Event}
@@ -13,6 +13,7 @@ scrubbing past = record {
   running = running past;
   open_chunk = open_chunk past;
   start = start past;
+  used = used past;
   kind = last_kind past;
   findings = findings past;
 }

@@ -1,14 +1,18 @@
 -- Steps of every kind: the answer due, and the events after it.
-use Rattle.std.specs.Prelude.{ℕ, ◌≡◌, List, length, reverse, Some, None, option_map}
+use Rattle.std.specs.Prelude.{ℕ, ◌≡◌, false, List, length, reverse, Option, Some, None, option_map}
 use Rattle.pgs_op_log.specs.Logs.{newer}
 use Rattle.pgs_history.specs.Log.{log}
 use Rattle.pgs_history.specs.Members.{pulled}
 use Rattle.pgs_chunk.specs.Positions.{Ascends}
 use Rattle.pgs_map.specs.Entries.{AreInRange}
 use Rattle.pgs_history.specs.Scrubs.{running, open_chunk, start, limit_now}
-use Rattle.pgs_history.specs.Answers.{submit_answer, collect_answer, last_number, tell_answer, begin_answer, open_answer, take_answer, close_answer, primary}
-use Rattle.pgs_history.specs.After.{after_submit, after_collect, after_pull, after_tell, after_begin, after_open, after_take, after_close}
+use Rattle.pgs_history.specs.Answers.{submit_answer, admit_answer, collect_answer, last_number, ask, new_ask, tell_answer, begin_answer, open_answer, take_answer, close_answer, primary}
+use Rattle.pgs_history.specs.After.{gives, after_submit, after_admit, after_collect, after_pull, after_tell, after_begin, after_open, after_take, after_close}
+use Rattle.pgs_history.specs.Parked.{next_admitted, is_admitting}
+use Rattle.pgs_history.specs.Legal.{IsOfChunk}
 use Rattle.pgs_history.specs.History.{History}
+use Rattle.pgs_op.specs.declared.write.Write.{Write}
+use Rattle.pgs_group.specs.declared.admitted.Admitted.{Admitted}
 use Rattle.pgs_history.specs.declared.event.Event.{Event}
 use Rattle.pgs_history.specs.declared.made.Made.{Made}
 use Rattle.pgs_group.specs.declared.pulled.Pulled.{Pulled}
@@ -23,19 +27,35 @@ use Rattle.pgs_group.specs.declared.step.Step.TheVariants as steps
 use Rattle.pgs_group.specs.declared.step.Answer.{Answer}
 use Rattle.pgs_group.specs.declared.step.Answer.TheVariants as answers
 
--- what a member is given that pulls: the items above those that it had, the oldest first
+-- what a member is given that pulls: the items above those that it had, the oldest first, and what it is asked for; and whether any of it is new
 abbrev pub pull_answer : List Event → ℕ → Pulled
-pull_answer past osd = record { from = pulled past osd; to = last_number past; items = reverse (newer (pulled past osd) (log past)) }
+pull_answer past osd = record {
+  from = pulled past osd;
+  to = last_number past;
+  items = reverse (newer (pulled past osd) (log past));
+  ask = ask past;
+  is_new = gives past osd (new_ask past osd);
+}
+
+-- what is told of a write that was taken up
+abbrev pub admitted_told : Made → List Event → Write → Admitted
+admitted_told made past write = record { id = write.id; answer = admit_answer made past write }
+
+-- that of the write that is taken up next, if one is
+abbrev pub admit_told : Made → List Event → Option Admitted
+admit_told made past = option_map (admitted_told made past) (next_admitted past)
 
 -- what a caller is told of an answer: how much was found, and not what
 abbrev pub close_told : CloseAnswer → CloseTold
 close_told closes.NoChunk = told.NoChunk
 close_told closes.ClosedBefore = told.ClosedBefore
+close_told (closes.Preempted request) = told.Preempted request
 close_told (closes.NotYet osd) = told.NotYet osd
 close_told (closes.Closed report completes) = told.Closed (length report.found) (length report.snaps) completes
 
 abbrev pub answer_of : History → Step → Answer
 answer_of h (steps.Submit write) = answers.Submit (submit_answer h.made h.past write)
+answer_of h steps.Admit = answers.Admit (admit_told h.made h.past)
 answer_of h (steps.Collect id) = answers.Collect (collect_answer h.made h.past id)
 answer_of h (steps.Pull osd) = answers.Pull (pull_answer h.past osd)
 answer_of h (steps.Tell osd applied) = answers.Tell (tell_answer h.past osd applied)
@@ -46,6 +66,7 @@ answer_of h (steps.Close chunk) = answers.Close (close_told (close_answer h.made
 
 abbrev pub after : History → Step → History
 after h (steps.Submit write) = record h { past = after_submit h.made h.past write }
+after h steps.Admit = record h { past = after_admit h.made h.past }
 after h (steps.Collect id) = record h { past = after_collect h.made h.past id }
 after h (steps.Pull osd) = record h { past = after_pull h.past osd }
 after h (steps.Tell osd applied) = record h { past = after_tell h.past osd applied }
@@ -54,11 +75,13 @@ after h (steps.Open serial listed) = record h { past = after_open h.made h.past 
 after h (steps.Take place map) = record h { past = after_take h.past place map }
 after h (steps.Close chunk) = record h { past = after_close h.made h.past chunk }
 
--- a step is one that a group may be asked for: a chunk is opened of the scrub that runs, and lists and maps are in order
+-- A step is one that a group may be asked for: writes that waited are taken up before anything else, a chunk is opened of the scrub that runs, lists and
+-- maps are in order, and a map of the open chunk is of its families.
 abbrev pub IsProper : History → Step → Type 0
-IsProper h (steps.Open serial listed) = (running h.past ≡ Some serial) × Ascends listed
-IsProper h (steps.Take place map) = AreInRange map.range map.entries
-IsProper h step = Unit {0}
+IsProper h steps.Admit = Unit {0}
+IsProper h (steps.Open serial listed) = (is_admitting h.past ≡ false) × (running h.past ≡ Some serial) × Ascends listed
+IsProper h (steps.Take place map) = (is_admitting h.past ≡ false) × AreInRange map.range map.entries × IsOfChunk h.past map
+IsProper h step = is_admitting h.past ≡ false
 
 -- what a caller is told that is to open the next chunk
 abbrev pub IsNextChunk : Made → List Event → NextChunk → Type 0

@@ -2,6 +2,7 @@ ghost use Rattle.std.specs.Prelude.{◌≡◌};
 ghost use Rattle.pgs_group.specs.Steps.{close_told};
 
 use pgs_history::CloseAnswer;
+use pgs_request::ReqId;
 
 /// What a caller is told that closes a chunk. What was found stands in the event that is kept.
 #[derive(Clone, Copy, Debug, PartialEq, Drop)]
@@ -10,6 +11,11 @@ pub enum CloseTold {
     NoChunk,
     /// It was closed already.
     ClosedBefore,
+    /// It gave way to a write.
+    Preempted {
+        /// The write's request.
+        request: ReqId,
+    },
     /// An acting OSD's map is missing.
     NotYet {
         /// The first such OSD.
@@ -33,6 +39,7 @@ pub fn told_of(answer: &CloseAnswer) -> CloseTold
     match answer {
         CloseAnswer::NoChunk => CloseTold::NoChunk,
         CloseAnswer::ClosedBefore => CloseTold::ClosedBefore,
+        CloseAnswer::Preempted { request } => CloseTold::Preempted { request: *request },
         CloseAnswer::NotYet { osd } => CloseTold::NotYet { osd: *osd },
         CloseAnswer::Closed { report, completes } => CloseTold::Closed {
             findings: report.found.len() as u64,

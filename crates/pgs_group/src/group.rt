@@ -1,33 +1,40 @@
 ghost use Rattle.std.specs.Prelude.{◌≡◌, [], reverse, IfOk, OnOk, OnErr};
-ghost use Rattle.pgs_history.specs.Answers.{submit_answer, next_version, behind, collect_answer, tell_answer};
 ghost use Rattle.std.specs.Option.{option_copied};
+ghost use Rattle.pgs_op_log.specs.Logs.{version_in};
+ghost use Rattle.pgs_history.specs.Log.{ids};
+ghost use Rattle.pgs_history.specs.Answers.{next_version};
 ghost use Rattle.pgs_history.specs.Legal.{IsLegal};
 ghost use Rattle.pgs_history.specs.Scrubs.{running, opened, open_chunk};
+ghost use Rattle.pgs_history.specs.Parked.{parked, AreNew, AreWaiting, NoneAbove};
+ghost use Rattle.pgs_history.specs.Facts.{AreDistinct};
 ghost use Rattle.pgs_history.specs.Chunks.{AreFated, AreTiled};
 ghost use Rattle.pgs_history.specs.Findings.{findings};
-ghost use Rattle.pgs_history.specs.After.{after_submit, after_collect, after_pull, after_tell};
-ghost use Rattle.pgs_group.specs.Steps.{pull_answer, answer_of, after, IsProper};
+ghost use Rattle.pgs_group.specs.Weighed.{AreMade};
+ghost use Rattle.pgs_group.specs.Steps.{answer_of, after, IsProper};
 
-use crate::accepting::accept;
-use crate::behind::first_behind;
 use crate::counts::Counts;
-use crate::pulled::Pulled;
+use crate::given::Given;
 use crate::scrubbing::Scrubbing;
 use crate::step::{Answer, Step};
-use crate::weighed::Weighed;
-use crate::weighing::weigh;
-use pgs_history::{Chunk, Event, Made};
+use pgs_copy::Effect;
+use pgs_gate::Waiting;
+use pgs_history::{Chunk, Event, Fate, Made};
 use pgs_incons::Findings;
-use pgs_op::{CleanStore, Write};
+use pgs_op::{CleanStore, Write, WriteError, make_effects};
 use pgs_op_log::GroupLog;
 use pgs_range::Bound;
-use pgs_request::{CollectAnswer, ReqId, Version, WriteAnswer};
+use pgs_request::{Refusal, ReqId, Version};
 use sqlite_items::Items;
 use std::alloc::{AllocError, Global};
 use std::collections::HashSet;
 use std::marker::Model;
 
+mod admissions;
+mod endings;
+mod members;
 mod scrubs;
+mod weighing;
+mod writes;
 
 /// A group of the pool, seen as what it was made with and its kept events, the newest first.
 #[derive(Drop)]
@@ -37,10 +44,13 @@ pub struct Group {
     events: Vec<Event>,
     log: GroupLog,
     clean: CleanStore,
-    pulled: Counts,
+    waiting: Waiting,
+    refused: Vec<(ReqId, Refusal)>,
+    given: Given,
     told: Counts,
     collected: HashSet<ReqId>,
     scrubs: Scrubbing,
+    fates: Vec<Fate>,
 }
 
 impl Model for Group {
@@ -67,7 +77,9 @@ impl Group {
             events: Vec::new(alloc),
             log: GroupLog::new(alloc),
             clean: CleanStore::new(alloc),
-            pulled: Counts::new(alloc),
+            waiting: Waiting::new(alloc),
+            refused: Vec::new(alloc),
+            given: Given::new(alloc),
             told: Counts::new(alloc),
             collected: HashSet::new(alloc),
             scrubs: Scrubbing {
@@ -76,9 +88,11 @@ impl Group {
                 running: None,
                 open_chunk: None,
                 start: Bound::Min,
+                used: 0,
                 kind: None,
                 findings: Findings::new(alloc),
             },
+            fates: Vec::new(alloc),
         }
     }
 
@@ -92,129 +106,20 @@ impl Group {
         }
     }
 
-    /// Answers a client's write, and appends it to the log where it is accepted.
-    #[tactic(auto, using(crate::proofs::Accepted::declined_so, crate::proofs::Accepted::accepted_so, pgs_history::proofs::Legal::legal_submit))]
-    pub fn submit(&mut self, write: Write) -> Result<WriteAnswer, AllocError>
-        ensures answer { IfOk result (λ a. a ≡ submit_answer self.old.made self.old.past write) }
-        ensures kept { OnOk result (self.new ≡ record self.old { past = after_submit self.old.made self.old.past write }) }
-        ensures err { OnErr result (self.new ≡ self.old) }
-        ensures legal { IsLegal self.old.made self.old.past → IsLegal self.new.made self.new.past }
+    // The version that a request has in the log.
+    fn version_of(&self, id: ReqId) -> Option<Version>
+        ensures { result ≡ version_in (ids self.now.past) id }
     {
-        if self.events.reserve(1).is_err() {
-            drop(write);
-            return Err(AllocError);
-        }
+        self.log.version_of(id)
+    }
+
+    // The effects of a write that gets the next version.
+    #[tactic(auto, using(crate::proofs::Makes::made_so))]
+    fn make(&self, write: &Write) -> Result<Items<(u64, Effect)>, WriteError>
+        ensures { AreMade result self.now.made self.now.past write.now }
+    {
         let version = self.next_version();
-        match weigh(self.alloc, &self.log, &self.clean, &write, version) {
-            Ok(Weighed::Declined { declined }) => {
-                let answer = WriteAnswer::Declined { declined };
-                self.events.push_reserved(Event::Submit { write, answer });
-                Ok(answer)
-            }
-            Ok(Weighed::Makes { effects }) => {
-                if accept(
-                    self.alloc,
-                    &mut self.log,
-                    &mut self.clean,
-                    version,
-                    &write,
-                    effects,
-                )
-                .is_err()
-                {
-                    drop(write);
-                    return Err(AllocError);
-                }
-                let answer = WriteAnswer::Accepted { version };
-                self.events.push_reserved(Event::Submit { write, answer });
-                Ok(answer)
-            }
-            Err(AllocError) => {
-                drop(write);
-                Err(AllocError)
-            }
-        }
-    }
-
-    /// Tells a member the items of the log that it didn't pull yet.
-    #[tactic(auto, using(pgs_history::proofs::Legal::legal_pull))]
-    pub fn pull(&mut self, osd: u32) -> Result<Pulled, AllocError>
-        ensures answer { IfOk result (λ p. p ≡ pull_answer self.old.past osd) }
-        ensures kept { OnOk result (self.new ≡ record self.old { past = after_pull self.old.past osd }) }
-        ensures err { OnErr result (self.new ≡ self.old) }
-        ensures legal { IsLegal self.old.made self.old.past → IsLegal self.new.made self.new.past }
-    {
-        let from = self.pulled.get(osd);
-        let to = self.log.len();
-        let items = self.log.items_after(self.alloc, from)?;
-        if to <= from {
-            return Ok(Pulled { from, to, items });
-        }
-        self.events.reserve(1)?;
-        self.pulled.raise(osd, to)?;
-        self.events.push_reserved(Event::Pull { osd, from, to });
-        Ok(Pulled { from, to, items })
-    }
-
-    /// Notes that a member applied the log up to a number, and answers the greatest that it told.
-    #[tactic(auto, using(pgs_history::proofs::Legal::legal_tell))]
-    pub fn tell(&mut self, osd: u32, applied: u64) -> Result<u64, AllocError>
-        ensures answer { IfOk result (λ count. count ≡ tell_answer self.old.past osd applied) }
-        ensures kept { OnOk result (self.new ≡ record self.old { past = after_tell self.old.past osd applied }) }
-        ensures err { OnErr result (self.new ≡ self.old) }
-        ensures legal { IsLegal self.old.made self.old.past → IsLegal self.new.made self.new.past }
-    {
-        let before = self.told.get(osd);
-        if applied <= before {
-            return Ok(before);
-        }
-        self.events.reserve(1)?;
-        self.told.raise(osd, applied)?;
-        self.events.push_reserved(Event::Tell { osd, applied });
-        Ok(applied)
-    }
-
-    // The first acting OSD that told of less than a number.
-    #[tactic(auto, using(crate::proofs::Finds::behind_is))]
-    fn behind(&self, number: u64) -> Option<u32>
-        ensures { result ≡ behind self.now.made self.now.past number }
-    {
-        first_behind(self.made.members.as_slice(), &self.told, number)
-    }
-
-    // The outcome of a request.
-    fn outcome(&self, id: ReqId) -> CollectAnswer
-        ensures { result ≡ collect_answer self.now.made self.now.past id }
-    {
-        let Some(version) = self.log.version_of(id) else {
-            return CollectAnswer::Unknown;
-        };
-        if let Some(osd) = self.behind(version.number) {
-            let told = self.told.get(osd);
-            return CollectAnswer::NotYet { osd, told };
-        }
-        CollectAnswer::Acked { version }
-    }
-
-    /// The outcome of a request. The first time that a client learns of an acknowledgement is kept.
-    #[tactic(auto, using(pgs_history::proofs::Legal::legal_collect))]
-    pub fn collect(&mut self, id: ReqId) -> Result<CollectAnswer, AllocError>
-        ensures answer { IfOk result (λ a. a ≡ collect_answer self.old.made self.old.past id) }
-        ensures kept { OnOk result (self.new ≡ record self.old { past = after_collect self.old.made self.old.past id }) }
-        ensures err { OnErr result (self.new ≡ self.old) }
-        ensures legal { IsLegal self.old.made self.old.past → IsLegal self.new.made self.new.past }
-    {
-        let answer = self.outcome(id);
-        let CollectAnswer::Acked { version } = answer else {
-            return Ok(answer);
-        };
-        if self.collected.contains(&id) {
-            return Ok(answer);
-        }
-        self.events.reserve(1)?;
-        self.collected.insert(id)?;
-        self.events.push_reserved(Event::Collect { id, version });
-        Ok(answer)
+        make_effects(self.alloc, &self.clean, self.log.bytes(), write, version)
     }
 
     /// Makes a step of any kind.
@@ -229,6 +134,10 @@ impl Group {
             Step::Submit { write } => {
                 let answer = self.submit(write)?;
                 Ok(Answer::Submit { answer })
+            }
+            Step::Admit => {
+                let admitted = self.admit_next()?;
+                Ok(Answer::Admit { admitted })
             }
             Step::Collect { id } => {
                 let answer = self.collect(id)?;
@@ -282,7 +191,7 @@ impl Group {
         self.scrubs.opened
     }
 
-    /// The chunk that is open. Of a legal history there is one at most, and each other chunk was closed once.
+    /// The chunk that is open. Of a legal history there is one at most, and each other chunk was closed or gave way once.
     #[tactic(auto, using(pgs_history::proofs::Fates::fated))]
     pub fn open_chunk(&self) -> Option<&Chunk>
         ensures value { option_copied result ≡ open_chunk self.now.past }
@@ -299,11 +208,16 @@ impl Group {
     }
 
     /// Its events, the oldest first. The closed chunks of each scrub lie in a row from the least bound on, and those of one
-    /// that is complete hold each family once.
-    #[tactic(auto, using(pgs_history::proofs::Rows::tiled))]
+    /// that is complete hold each family once. Writes wait only in the range of a firm chunk, and nothing came into the range
+    /// of an open chunk after it was opened. No request stands in the log twice, nor waits twice or waits and stands there.
+    #[tactic(auto, using(pgs_history::proofs::Rows::tiled, pgs_history::proofs::Gates::waiting, pgs_history::proofs::Gates::none_above, pgs_history::proofs::Ids::distinct, pgs_history::proofs::Ids::waits_apart))]
     pub fn into_events(self) -> Items<Event>
         ensures value { reverse result ≡ self.past }
         ensures tiled { IsLegal self.made self.past → AreTiled self.past }
+        ensures waiting { IsLegal self.made self.past → AreWaiting self.past }
+        ensures outside { IsLegal self.made self.past → NoneAbove self.past }
+        ensures distinct { IsLegal self.made self.past → AreDistinct (ids self.past) }
+        ensures apart { IsLegal self.made self.past → AreNew (ids self.past) (parked self.past) }
     {
         Items::from_vec(self.events)
     }

@@ -2,19 +2,25 @@
 #![tactic(auto)]
 
 mod accepting;
+mod admitted;
 mod behind;
 mod close_told;
 mod comparing;
+mod copying;
 mod counts;
+mod due;
+mod given;
 mod group;
+mod limits_now;
 mod next_chunk;
 mod pulled;
+mod refusals;
 mod scrubbing;
 mod step;
 mod taken;
 mod weighed;
-mod weighing;
 
+pub use admitted::Admitted;
 pub use close_told::CloseTold;
 pub use counts::Counts;
 pub use group::Group;

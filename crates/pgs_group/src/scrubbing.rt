@@ -1,15 +1,18 @@
-ghost use Rattle.std.specs.Prelude.{◌≡◌, ◌+◌, ◌<◌, ◌^◌, Some, OnOk, OnErr};
+ghost use Rattle.std.specs.Prelude.{◌≡◌, ◌+◌, ◌<◌, ◌^◌, Some, None, OnOk, OnErr, IfOk, option_map};
+ghost use Rattle.pgs_gate.specs.Gate.{verdict_of};
 ghost use Rattle.pgs_history.specs.Scrubs.{has_number, is_deep};
-ghost use Rattle.pgs_history.specs.Answers.{is_greatest, is_last, taken_by, version_of};
+ghost use Rattle.pgs_history.specs.Answers.{is_greatest, is_last, taken_by, version_of, gate_of, waits, giving_way, ask_of, newly};
 ghost use Rattle.pgs_history.specs.Findings.{with_report};
 ghost use Rattle.pgs_incons.specs.Kept.{AreOrdered};
 ghost use Rattle.pgs_range.specs.declared.bound.Bound.TheVariants.{Min};
 ghost use Rattle.pgs_group.specs.Scrubbing.{closed};
 
-use pgs_chunk::Kind;
+use pgs_chunk::{Ask, Kind};
 use pgs_compare::Report;
+use pgs_gate::{Gate, Verdict};
 use pgs_history::{Chunk, TakeAnswer};
 use pgs_incons::Findings;
+use pgs_name::Family;
 use pgs_range::{Bound, FamilyRange};
 use std::alloc::AllocError;
 
@@ -26,6 +29,8 @@ pub struct Scrubbing {
     pub open_chunk: Option<Chunk>,
     /// Where the next chunk begins.
     pub start: Bound,
+    /// How often the scrub that began last gave way to a write.
+    pub used: u64,
     /// The kind of the scrub that began last.
     pub kind: Option<Kind>,
     /// What is kept of all that was found.
@@ -37,12 +42,13 @@ impl Scrubbing {
     pub fn begin(&mut self, kind: Kind) -> u64
         requires { self.old.begun + 1 < 2 ^ 64 }
         ensures number { result ≡ self.old.begun + 1 }
-        ensures kept { self.new ≡ record self.old { begun = self.old.begun + 1; running = Some (self.old.begun + 1); start = Min; kind = Some kind } }
+        ensures kept { self.new ≡ record self.old { begun = self.old.begun + 1; running = Some (self.old.begun + 1); start = Min; used = 0; kind = Some kind } }
     {
         let serial = self.begun + 1;
         self.begun = serial;
         self.running = Some(serial);
         self.start = Bound::Min;
+        self.used = 0;
         self.kind = Some(kind);
         serial
     }
@@ -63,6 +69,99 @@ impl Scrubbing {
             Some(open) => open.number == chunk,
             None => false,
         }
+    }
+
+    /// The number of the chunk that is open.
+    pub fn open_number(&self) -> Option<u64>
+        ensures { result ≡ option_map (λ chunk. chunk.number) self.now.open_chunk }
+    {
+        match &self.open_chunk {
+            Some(open) => Some(open.number),
+            None => None,
+        }
+    }
+
+    /// The families of the chunk that is open.
+    pub fn open_range(&self) -> Result<Option<FamilyRange>, AllocError>
+        ensures { IfOk result (λ range. range ≡ option_map (λ chunk. chunk.range) self.now.open_chunk) }
+    {
+        let Some(open) = &self.open_chunk else {
+            return Ok(None);
+        };
+        let range = open.range.clone()?;
+        Ok(Some(range))
+    }
+
+    // What becomes of a write to a family.
+    fn verdict(&self, family: &Family) -> Verdict
+        ensures { result ≡ verdict_of (gate_of self.now.open_chunk) family.now }
+    {
+        match &self.open_chunk {
+            Some(open) => Gate::of_chunk(&open.range, open.firm).check(family),
+            None => Gate::without_chunk().check(family),
+        }
+    }
+
+    /// Whether a write to a family waits.
+    pub fn waits(&self, family: &Family) -> bool
+        ensures { result ≡ waits (verdict_of (gate_of self.now.open_chunk) family.now) }
+    {
+        match self.verdict(family) {
+            Verdict::Waits => true,
+            Verdict::Pass => false,
+            Verdict::Preempts => false,
+        }
+    }
+
+    /// The chunk that gives way to a write to a family, if one does.
+    pub fn giving_way(&self, family: &Family) -> Option<u64>
+        ensures { result ≡ giving_way (verdict_of (gate_of self.now.open_chunk) family.now) self.now.open_chunk }
+    {
+        match self.verdict(family) {
+            Verdict::Preempts => self.open_number(),
+            Verdict::Pass => None,
+            Verdict::Waits => None,
+        }
+    }
+
+    /// The chunk that is open gives way to a write.
+    pub fn give_way(&mut self)
+        requires { self.old.used + 1 < 2 ^ 64 }
+        ensures { self.new ≡ record self.old { open_chunk = None; used = self.old.used + 1 } }
+    {
+        self.open_chunk = None;
+        self.used += 1;
+    }
+
+    /// What a member is asked for, where a chunk is open.
+    pub fn ask(&self) -> Result<Option<Ask>, AllocError>
+        ensures { IfOk result (λ ask. ask ≡ ask_of self.now.open_chunk (is_deep self.now.kind)) }
+    {
+        let deep = self.is_deep();
+        let Some(open) = &self.open_chunk else {
+            return Ok(None);
+        };
+        let range = open.range.clone()?;
+        Ok(Some(Ask {
+            serial: open.serial,
+            chunk: open.number,
+            range,
+            needed: open.version,
+            deep,
+        }))
+    }
+
+    /// The chunk that is open, where it is newer than this one.
+    pub fn newly(&self, before: u64) -> Option<u64>
+        ensures { result ≡ newly self.now.open_chunk before }
+    {
+        let Some(open) = &self.open_chunk else {
+            return None;
+        };
+        if before < open.number {
+            return Some(open.number);
+        }
+        None
     }
 
     /// Whether the scrub that began last reads the data and the omaps of copies.

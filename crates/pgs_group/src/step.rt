@@ -1,11 +1,12 @@
+use crate::admitted::Admitted;
 use crate::close_told::CloseTold;
 use crate::pulled::Pulled;
 use pgs_chunk::Kind;
-use pgs_history::{BeginAnswer, OpenAnswer, TakeAnswer};
+use pgs_history::{BeginAnswer, CollectAnswer, OpenAnswer, TakeAnswer, WriteAnswer};
 use pgs_map::ScrubMap;
 use pgs_name::ObjectId;
 use pgs_op::Write;
-use pgs_request::{CollectAnswer, ReqId, WriteAnswer};
+use pgs_request::ReqId;
 use sqlite_items::Items;
 
 /// What is asked of a group.
@@ -15,6 +16,8 @@ pub enum Step {
     Submit {
         write: Write,
     },
+    /// The write that waits first is taken up, where no chunk is open.
+    Admit,
     /// A client asks for the outcome of a request.
     Collect {
         id: ReqId,
@@ -52,6 +55,7 @@ pub enum Step {
 #[derive(Drop)]
 pub enum Answer {
     Submit { answer: WriteAnswer },
+    Admit { admitted: Option<Admitted> },
     Collect { answer: CollectAnswer },
     Pull { pulled: Pulled },
     Tell { applied: u64 },

@@ -1,33 +1,69 @@
 -- Each chunk of a legal history has one fate, but for the one that is open.
-use Rattle.std.proofs.Common.{◌≡◌, ℕ, ◌+◌, ◌≤◌, ◌<◌, ◌==◌, Bool, true, false, cond, List, [], ◌∷◌, Option, Some, None, refl, sym, ap, ◌∙◌, subst, arith}
+use Rattle.std.proofs.Common.{◌≡◌, ℕ, zero, suc, ◌+◌, ◌≤◌, ◌<◌, ◌==◌, Bool, true, false, cond, List, [], ◌∷◌, ◌++◌, length, Option, Some, None, refl, sym, ap, ◌∙◌, subst, arith}
 use Rattle.std.proofs.lemmas.Bool.Decides.{nat_tests}
+use Rattle.std.specs.Prelude.{is_some, slice_get}
+use Rattle.std.proofs.lemmas.Option.{slice_get_past}
+use Rattle.std.proofs.lemmas.List.{length_push}
 use Rattle.pgs_bytes.proofs.Facts.{none_some, some_same, true_false}
-use Rattle.pgs_history.specs.Scrubs.{opened, open_chunk, has_number, closes}
+use Rattle.pgs_history.specs.Scrubs.{opened, open_chunk, has_number, ends, fates, ended, or_first}
 use Rattle.pgs_history.specs.Legal.{IsLegal}
 use Rattle.pgs_history.specs.Chunks.{AreFated}
 use Rattle.pgs_history.specs.declared.made.Made.{Made}
 use Rattle.pgs_history.specs.declared.chunk.Chunk.{Chunk}
 use Rattle.pgs_history.specs.declared.event.Event.{Event}
-use Rattle.pgs_history.specs.declared.event.Event.TheVariants.{Submit, Collect, Pull, Tell, Begin, Open, Take, Close}
+use Rattle.pgs_history.specs.declared.event.Event.TheVariants.{Submit, Admit, Collect, Pull, Tell, Begin, Open, Take, Close}
+use Rattle.pgs_history.specs.declared.fate.Fate.{Fate}
+use Rattle.pgs_history.specs.declared.fate.Fate.TheVariants as fates_are
+use Rattle.pgs_history.specs.declared.write_answer.WriteAnswer.TheVariants.{Declined, Parked, QueueFull, Accepted}
 use Rattle.pgs_history.specs.declared.open_answer.OpenAnswer.TheVariants.{Already, Opened}
-use Rattle.pgs_history.specs.declared.close_answer.CloseAnswer.TheVariants as ends
-use Rattle.pgs_history.proofs.Steps.{opened_is, IsClosed, closed_is}
+use Rattle.pgs_history.specs.declared.close_answer.CloseAnswer.TheVariants as closes
+use Rattle.pgs_history.proofs.Steps.{opened_is, closed_is}
+use Rattle.pgs_history.proofs.Answered.{accepted_is, gives_way}
 
--- what opens and closes no chunk changes nothing
-stays : (past new : List Event) → opened new ≡ opened past → open_chunk new ≡ open_chunk past → ((chunk : ℕ) → closes new chunk ≡ closes past chunk) → AreFated past → AreFated new
-stays past new o c n h = record {
-  each = λ chunk some within. n chunk ∙ h.each chunk some (subst (λ k. chunk ≤ k) o within) ∙ ap (λ now. cond (has_number now chunk) 0 1) (sym c);
-  others = λ chunk over. n chunk ∙ h.others chunk (subst (λ k. k < chunk) o over);
-  last = λ chunk is. h.last chunk (sym c ∙ is) ∙ sym o;
+-- ---- one more in a list
+
+last_there : (list : List Fate) (fate : Fate) → slice_get (list ++ fate ∷ []) (length list) ≡ Some fate
+last_there [] fate = refl
+last_there (x ∷ list) fate = last_there list fate
+
+others_there : (list : List Fate) (fate : Fate) (place : ℕ) → (place ≡ length list → ⊥) → slice_get (list ++ fate ∷ []) place ≡ slice_get list place
+others_there [] fate zero other = absurd (other refl)
+others_there [] fate (suc place) other = refl
+others_there (x ∷ list) fate zero other = refl
+others_there (x ∷ list) fate (suc place) other = others_there list fate place (λ e. other (ap suc e))
+
+-- ---- what opens and ends no chunk
+
+pub record AreAlike (past new : List Event) : Type 0 where
+  pub opens : opened new ≡ opened past
+  pub now : open_chunk new ≡ open_chunk past
+  pub counts : (chunk : ℕ) → ends new chunk ≡ ends past chunk
+  pub same : fates new ≡ fates past
+  pub told : (chunk : ℕ) → ended new chunk ≡ ended past chunk
+
+-- what opens and ends no chunk changes nothing
+stays : (past new : List Event) → AreAlike past new → AreFated past → AreFated new
+stays past new a h = record {
+  each = λ chunk some within. a.counts chunk ∙ h.each chunk some (subst (λ k. chunk ≤ k) a.opens within) ∙ ap (λ now. cond (has_number now chunk) 0 1) (sym a.now);
+  others = λ chunk over. a.counts chunk ∙ h.others chunk (subst (λ k. k < chunk) a.opens over);
+  last = λ chunk is. h.last chunk (sym a.now ∙ is) ∙ sym a.opens;
+  count = ap (λ list. length list + cond (is_some (open_chunk new)) 1 0) a.same ∙ ap (λ now. length (fates past) + cond (is_some now) 1 0) a.now ∙ h.count ∙ sym a.opens;
+  told = λ place. ap (λ list. slice_get list place) a.same ∙ h.told place ∙ sym (a.told (place + 1));
 }
+
+alike : (past : List Event) (event : Event) → opened (event ∷ past) ≡ opened past → open_chunk (event ∷ past) ≡ open_chunk past
+    → ((chunk : ℕ) → ends (event ∷ past) chunk ≡ ends past chunk) → fates (event ∷ past) ≡ fates past
+    → ((chunk : ℕ) → ended (event ∷ past) chunk ≡ ended past chunk) → AreFated past → AreFated (event ∷ past)
+alike past event o c n f t h = stays past (event ∷ past) (record { opens = o; now = c; counts = n; same = f; told = t }) h
 
 -- ---- a chunk more
 
 one_opened : (past new : List Event) (chunk : Chunk) → open_chunk past ≡ None → chunk.number ≡ opened past + 1
-    → opened new ≡ opened past + 1 → open_chunk new ≡ Some chunk → ((number : ℕ) → closes new number ≡ closes past number) → AreFated past → AreFated new
-one_opened past new chunk none next o c n h = record {
+    → opened new ≡ opened past + 1 → open_chunk new ≡ Some chunk → ((number : ℕ) → ends new number ≡ ends past number) → fates new ≡ fates past
+    → ((number : ℕ) → ended new number ≡ ended past number) → AreFated past → AreFated new
+one_opened past new chunk none next o c n f t h = record {
   each = λ number some within.
-      let P : Bool → Type 0 = λ v. (chunk.number == number) ≡ v → closes past number ≡ cond v 0 1 in
+      let P : Bool → Type 0 = λ v. (chunk.number == number) ≡ v → ends past number ≡ cond v 0 1 in
       n number
       ∙ (elim (chunk.number == number) as P [
         | true ↦ λ same. h.others number (let is : chunk.number ≡ number = grind (arith, nat_tests, same) in omega (arith, is, next))
@@ -38,6 +74,12 @@ one_opened past new chunk none next o c n h = record {
       ∙ ap (λ now. cond (has_number now number) 0 1) (sym c);
   others = λ number over. n number ∙ h.others number (let size : opened past + 1 < number = subst (λ k. k < number) o over in omega (arith, size));
   last = λ other is. ap (λ k. k.number) (some_same other chunk (sym is ∙ c)) ∙ next ∙ sym o;
+  count =
+      let before : length (fates past) + 0 ≡ opened past = ap (λ now. length (fates past) + cond (is_some now) 1 0) (sym none) ∙ h.count in
+      let now : length (fates new) + cond (is_some (open_chunk new)) 1 0 ≡ length (fates past) + 1 =
+      ap (λ list. length list + cond (is_some (open_chunk new)) 1 0) f ∙ ap (λ k. length (fates past) + cond (is_some k) 1 0) c in
+      omega (arith, before, now, o);
+  told = λ place. ap (λ list. slice_get list place) f ∙ h.told place ∙ sym (t (place + 1));
 }
 
 -- ---- a chunk less that is open
@@ -46,46 +88,95 @@ number_of : (now : Option Chunk) (number : ℕ) → has_number now number ≡ tr
 number_of None number e other = absurd (true_false (sym e))
 number_of (Some chunk) number e other = let is : chunk.number ≡ number = grind (arith, nat_tests, e) in ap (λ n. n == other) is
 
+record IsThere (now : Option Chunk) (number : ℕ) : Type 0 where
+  chunk : Chunk
+  is : now ≡ Some chunk
+  numbered : chunk.number ≡ number
+
+there_from : (now : Option Chunk) (number : ℕ) → has_number now number ≡ true → IsThere now number
+there_from None number e = absurd (true_false (sym e))
+there_from (Some chunk) number e = record { chunk = chunk; is = refl; numbered = grind (arith, nat_tests, e) }
+
 counted : (b : Bool) (n : ℕ) → n ≡ cond b 0 1 → cond b (n + 1) n ≡ 1
 counted true n e = ap (λ k. k + 1) e
 counted false n e = e
 
-one_closed : (past new : List Event) (number : ℕ) (completes : Bool) → IsClosed past number completes
-    → opened new ≡ opened past → open_chunk new ≡ None → ((other : ℕ) → closes new other ≡ cond (number == other) (closes past other + 1) (closes past other))
+one_ended : (past new : List Event) (number : ℕ) (fate : Fate) → has_number (open_chunk past) number ≡ true
+    → opened new ≡ opened past → open_chunk new ≡ None → ((other : ℕ) → ends new other ≡ cond (number == other) (ends past other + 1) (ends past other))
+    → fates new ≡ fates past ++ fate ∷ []
+    → ((other : ℕ) → ended new other ≡ cond (number == other) (or_first (ended past other) fate) (ended past other))
     → AreFated past → AreFated new
-one_closed past new number completes closed o c n h = record {
-  each = λ other some within.
-      n other
-      ∙ counted (number == other) (closes past other)
-      (h.each other some (subst (λ k. other ≤ k) o within) ∙ ap (λ b. cond b 0 1) (number_of (open_chunk past) number closed.was_open other))
-      ∙ ap (λ now. cond (has_number now other) 0 1) (sym c);
-  others = λ other over.
-      let size : opened past < other = subst (λ k. k < other) o over in
-      let within : number ≤ opened past = closed.was_opened in
-      let differs : (number == other) ≡ false = grind (arith, nat_tests, size, within) in
-      n other ∙ ap (λ b. cond b (closes past other + 1) (closes past other)) differs ∙ h.others other size;
-  last = λ chunk is. absurd (none_some chunk (sym c ∙ is));
-}
+one_ended past new number fate was_open o c n f t h =
+    let there = there_from (open_chunk past) number was_open in
+    let last : number ≡ opened past = sym there.numbered ∙ h.last there.chunk there.is in
+    let before : length (fates past) + 1 ≡ opened past = ap (λ now. length (fates past) + cond (is_some now) 1 0) (sym there.is) ∙ h.count in
+    record {
+      each = λ other some within.
+          n other
+          ∙ counted (number == other) (ends past other)
+          (h.each other some (subst (λ k. other ≤ k) o within) ∙ ap (λ b. cond b 0 1) (number_of (open_chunk past) number was_open other))
+          ∙ ap (λ now. cond (has_number now other) 0 1) (sym c);
+      others = λ other over.
+          let size : opened past < other = subst (λ k. k < other) o over in
+          let differs : (number == other) ≡ false = grind (arith, nat_tests, size, last) in
+          n other ∙ ap (λ b. cond b (ends past other + 1) (ends past other)) differs ∙ h.others other size;
+      last = λ chunk is. absurd (none_some chunk (sym c ∙ is));
+      count =
+          let long : length (fates new) ≡ length (fates past) + 1 = ap (λ list. length list) f ∙ length_push (fates past) fate in
+          let none : ◌≡◌ {A = ℕ} (cond (is_some (open_chunk new)) 1 0) 0 = ap (λ now. cond (is_some now) 1 0) c in
+          omega (arith, before, long, none, o);
+      told = λ place.
+          let P : Bool → Type 0 = λ v. (number == place + 1) ≡ v
+          → slice_get (fates past ++ fate ∷ []) place ≡ cond v (or_first (ended past (place + 1)) fate) (ended past (place + 1)) in
+          ap (λ list. slice_get list place) f
+          ∙ (elim (number == place + 1) as P [
+            | true ↦ λ same.
+                let is : number ≡ place + 1 = grind (arith, nat_tests, same) in
+                let at : length (fates past) ≡ place = omega (arith, is, last, before) in
+                let none : ended past (place + 1) ≡ None = sym (h.told place) ∙ slice_get_past (fates past) place (omega (arith, at)) in
+                subst (λ k. slice_get (fates past ++ fate ∷ []) k ≡ Some fate) at (last_there (fates past) fate) ∙ ap (λ o. or_first o fate) (sym none)
+            | false ↦ λ other.
+                others_there (fates past) fate place
+                (λ e. true_false (sym (let is : number ≡ place + 1 = omega (arith, e, last, before) in grind (arith, nat_tests, is)) ∙ other))
+                ∙ h.told place
+          ]) refl
+          ∙ sym (t (place + 1));
+    }
+
+same_number : (a b : ℕ) → a ≡ b → (a == b) ≡ true
+same_number a b e = grind (arith, nat_tests, e)
 
 pub fated : (made : Made) (past : List Event) → IsLegal made past → AreFated past
 fated made [] legal = record {
   each = λ chunk some within. absurd (omega (arith, some, within));
   others = λ chunk over. refl;
   last = λ chunk is. absurd (none_some chunk is);
+  count = refl;
+  told = λ place. refl;
 }
-fated made (Submit write answer ∷ past) legal = stays past (Submit write answer ∷ past) refl refl (λ c. refl) (fated made past legal.1)
-fated made (Collect id version ∷ past) legal = stays past (Collect id version ∷ past) refl refl (λ c. refl) (fated made past legal.1)
-fated made (Pull osd from to ∷ past) legal = stays past (Pull osd from to ∷ past) refl refl (λ c. refl) (fated made past legal.1)
-fated made (Tell osd applied ∷ past) legal = stays past (Tell osd applied ∷ past) refl refl (λ c. refl) (fated made past legal.1)
-fated made (Begin kind answer ∷ past) legal = stays past (Begin kind answer ∷ past) refl refl (λ c. refl) (fated made past legal.1)
-fated made (Take place map answer ∷ past) legal = stays past (Take place map answer ∷ past) refl refl (λ c. refl) (fated made past legal.1)
-fated made (Open serial listed (Already chunk) ∷ past) legal = stays past (Open serial listed (Already chunk) ∷ past) refl refl (λ c. refl) (fated made past legal.1)
+fated made (Submit write (Declined why) ∷ past) legal = alike past (Submit write (Declined why)) refl refl (λ c. refl) refl (λ c. refl) (fated made past legal.2)
+fated made (Submit write (Parked range) ∷ past) legal = alike past (Submit write (Parked range)) refl refl (λ c. refl) refl (λ c. refl) (fated made past legal.2)
+fated made (Submit write (QueueFull count) ∷ past) legal = alike past (Submit write (QueueFull count)) refl refl (λ c. refl) refl (λ c. refl) (fated made past legal.2)
+fated made (Submit write (Accepted version None) ∷ past) legal = alike past (Submit write (Accepted version None)) refl refl (λ c. refl) refl (λ c. refl) (fated made past legal.2)
+fated made (Submit write (Accepted version (Some number)) ∷ past) legal =
+    let a = accepted_is made past write version (Some number) legal.1 in
+    let g = gives_way (open_chunk past) write.family number a.gives in
+    one_ended past (Submit write (Accepted version (Some number)) ∷ past) number (fates_are.Preempted write.id)
+    (ap (λ now. has_number now number) g.is ∙ same_number g.chunk.number number g.numbered) refl refl (λ c. refl) refl (λ c. refl) (fated made past legal.2)
+fated made (Admit write answer ∷ past) legal = alike past (Admit write answer) refl refl (λ c. refl) refl (λ c. refl) (fated made past legal.2)
+fated made (Collect id version ∷ past) legal = alike past (Collect id version) refl refl (λ c. refl) refl (λ c. refl) (fated made past legal.2)
+fated made (Pull osd from to asked ∷ past) legal = alike past (Pull osd from to asked) refl refl (λ c. refl) refl (λ c. refl) (fated made past legal.2)
+fated made (Tell osd applied ∷ past) legal = alike past (Tell osd applied) refl refl (λ c. refl) refl (λ c. refl) (fated made past legal.2)
+fated made (Begin kind answer ∷ past) legal = alike past (Begin kind answer) refl refl (λ c. refl) refl (λ c. refl) (fated made past legal.2)
+fated made (Take place map answer ∷ past) legal = alike past (Take place map answer) refl refl (λ c. refl) refl (λ c. refl) (fated made past legal.2)
+fated made (Open serial listed (Already chunk) ∷ past) legal = alike past (Open serial listed (Already chunk)) refl refl (λ c. refl) refl (λ c. refl) (fated made past legal.2)
 fated made (Open serial listed (Opened chunk) ∷ past) legal =
-    let is = opened_is made past serial listed chunk legal.0.2 in
-    one_opened past (Open serial listed (Opened chunk) ∷ past) chunk is.0 (ap (λ c. c.number) is.1) refl refl (λ c. refl) (fated made past legal.1)
-fated made (Close number ends.NoChunk ∷ past) legal = stays past (Close number ends.NoChunk ∷ past) refl refl (λ c. refl) (fated made past legal.1)
-fated made (Close number ends.ClosedBefore ∷ past) legal = stays past (Close number ends.ClosedBefore ∷ past) refl refl (λ c. refl) (fated made past legal.1)
-fated made (Close number (ends.NotYet osd) ∷ past) legal = absurd legal.0.1
-fated made (Close number (ends.Closed report completes) ∷ past) legal =
-    one_closed past (Close number (ends.Closed report completes) ∷ past) number completes (closed_is made past number report completes legal.0.0) refl refl (λ c. refl)
-    (fated made past legal.1)
+    let is = opened_is made past serial listed chunk legal.1.2 in
+    one_opened past (Open serial listed (Opened chunk) ∷ past) chunk is.0 (ap (λ c. c.number) is.1) refl refl (λ c. refl) refl (λ c. refl) (fated made past legal.2)
+fated made (Close number closes.NoChunk ∷ past) legal = alike past (Close number closes.NoChunk) refl refl (λ c. refl) refl (λ c. refl) (fated made past legal.2)
+fated made (Close number closes.ClosedBefore ∷ past) legal = alike past (Close number closes.ClosedBefore) refl refl (λ c. refl) refl (λ c. refl) (fated made past legal.2)
+fated made (Close number (closes.Preempted request) ∷ past) legal = alike past (Close number (closes.Preempted request)) refl refl (λ c. refl) refl (λ c. refl) (fated made past legal.2)
+fated made (Close number (closes.NotYet osd) ∷ past) legal = absurd legal.1.1
+fated made (Close number (closes.Closed report completes) ∷ past) legal =
+    one_ended past (Close number (closes.Closed report completes) ∷ past) number fates_are.Closed (closed_is made past number report completes legal.1.0).was_open
+    refl refl (λ c. refl) refl (λ c. refl) (fated made past legal.2)

@@ -1,68 +1,44 @@
 -- The ids and numbers of a legal log.
-use Rattle.std.proofs.Common.{◌≡◌, ℕ, suc, ◌+◌, ◌≤◌, ◌==◌, nat_eq, max, Bool, true, false, cond, List, [], ◌∷◌, length, Option, Some, None, refl, sym, ap, ◌∙◌, arith}
-use Rattle.std.specs.Prelude.{option_map}
+use Rattle.std.proofs.Common.{◌≡◌, ℕ, suc, ◌+◌, ◌≤◌, ◌==◌, nat_eq, max, Bool, true, false, cond, List, [], ◌∷◌, length, Some, None, refl, sym, ap, ◌∙◌, subst, arith}
 use Rattle.std.proofs.lemmas.Bool.Decides.{nat_tests}
 use Rattle.std.proofs.lemmas.List.Sums.{sum_by-cons}
 use Rattle.pgs_bytes.proofs.Facts.{none_some, some_same, both}
-use Rattle.pgs_request.specs.Contexts.{bad_place}
 use Rattle.pgs_request.specs.declared.req_id.ReqId.{ReqId}
 use Rattle.pgs_request.specs.declared.version.Version.{Version}
-use Rattle.pgs_request.specs.declared.answers.Refusal.{Refusal}
-use Rattle.pgs_request.specs.declared.answers.Declined.{Declined as DeclinedWrite}
-use Rattle.pgs_request.specs.declared.answers.Declined.TheVariants.{Repeat, BadSnapContext, Refused}
-use Rattle.pgs_request.specs.declared.answers.WriteAnswer.TheVariants.{Declined, Accepted}
-use Rattle.pgs_op.specs.Refusals.{first}
-use Rattle.pgs_op.specs.declared.write.Write.{Write}
 use Rattle.pgs_history.specs.Log.{log, ids}
 use Rattle.pgs_op_log.specs.Logs.{same_id, version_in, AreNumbered}
 use Rattle.pgs_history.specs.Members.{pulled}
-use Rattle.pgs_history.specs.Answers.{refused, declined, answered, next_version, submit_answer}
+use Rattle.pgs_history.specs.Scrubs.{open_chunk}
+use Rattle.pgs_history.specs.Parked.{parked, without, AreNew}
+use Rattle.pgs_op.specs.declared.write.Write.{Write}
 use Rattle.pgs_history.specs.Legal.{IsLegal}
 use Rattle.pgs_history.specs.Facts.{AreDistinct, times}
+use Rattle.pgs_history.specs.declared.write_answer.WriteAnswer.TheVariants.{Declined, Parked, QueueFull, Accepted}
 use Rattle.pgs_history.specs.declared.event.Event.{Event}
-use Rattle.pgs_history.specs.declared.event.Event.TheVariants.{Submit, Collect, Pull, Tell, Begin, Open, Take, Close}
+use Rattle.pgs_history.specs.declared.event.Event.TheVariants.{Submit, Admit, Collect, Pull, Tell, Begin, Open, Take, Close}
 use Rattle.pgs_history.specs.declared.made.Made.{Made}
-
--- ---- what an accepted write tells
-
-first_none : (a : Option Version) (b : Option ℕ) (c : Option Refusal)
-    → first (option_map (λ version. Repeat version) a ∷ option_map (λ place. BadSnapContext place) b ∷ option_map (λ refusal. Refused refusal) c ∷ []) ≡ None
-    → (a ≡ None) × (b ≡ None) × (c ≡ None)
-first_none None None None e = (refl, refl, refl)
-first_none None None (Some c) e = absurd (none_some _ (sym e))
-first_none None (Some b) c e = absurd (none_some _ (sym e))
-first_none (Some a) b c e = absurd (none_some _ (sym e))
-
-pub record IsAccepted (made : Made) (past : List Event) (write : Write) (version : Version) : Type 0 where
-  pub next : next_version made past ≡ version
-  pub new : version_in (ids past) write.id ≡ None
-  pub ascends : bad_place write.context ≡ None
-  pub unrefused : refused past write version ≡ None
-
-answered_version : (why : Option DeclinedWrite) (next version : Version) → answered why next ≡ Accepted version → (why ≡ None) × (next ≡ version)
-answered_version None next version e = (refl, cc)
-answered_version (Some why) next version e = absurd cc
-
-pub accepted_is : (made : Made) (past : List Event) (write : Write) (version : Version) → Accepted version ≡ submit_answer made past write → IsAccepted made past write version
-unfolding declined
-accepted_is made past write version e =
-    let a = answered_version (declined made past write) (next_version made past) version (sym e) in
-    let b = first_none (version_in (ids past) write.id) (bad_place write.context) (refused past write (next_version made past)) a.0 in
-    record { next = a.1; new = b.0; ascends = b.1; unrefused = ap (refused past write) (sym a.1) ∙ b.2 }
+use Rattle.pgs_history.proofs.Answered.{accepted_is, admitted_is, parked_is, IsFirst, first_is, apart_is}
+use Rattle.pgs_history.proofs.New.{new_logged, new_last, new_rest, new_admitted, first_new}
 
 -- ---- numbers
 
 pub numbered : (made : Made) (past : List Event) → IsLegal made past → AreNumbered (log past)
 numbered made [] legal = tt
-numbered made (Submit write (Accepted version) ∷ past) legal = (ap (λ v. v.number) (sym (accepted_is made past write version legal.0).next), numbered made past legal.1)
-numbered made (Submit write (Declined why) ∷ past) legal = numbered made past legal.1
-numbered made (Collect id version ∷ past) legal = numbered made past legal.1
-numbered made (Pull osd from to ∷ past) legal = numbered made past legal.1
-numbered made (Tell osd applied ∷ past) legal = numbered made past legal.1
-numbered made (Begin kind answer ∷ past) legal = numbered made past legal.1
-numbered made (Open serial listed answer ∷ past) legal = numbered made past legal.1
-numbered made (Take place map answer ∷ past) legal = numbered made past legal.1
-numbered made (Close chunk answer ∷ past) legal = numbered made past legal.1
+numbered made (Submit write (Accepted version preempts) ∷ past) legal = (ap (λ v. v.number) (sym (accepted_is made past write version preempts legal.1).next), numbered made past legal.2)
+numbered made (Submit write (Declined why) ∷ past) legal = numbered made past legal.2
+numbered made (Submit write (Parked range) ∷ past) legal = numbered made past legal.2
+numbered made (Submit write (QueueFull count) ∷ past) legal = numbered made past legal.2
+numbered made (Admit write (Accepted version preempts) ∷ past) legal = (ap (λ v. v.number) (sym (admitted_is made past write version preempts legal.1.1).next), numbered made past legal.2)
+numbered made (Admit write (Declined why) ∷ past) legal = numbered made past legal.2
+numbered made (Admit write (Parked range) ∷ past) legal = numbered made past legal.2
+numbered made (Admit write (QueueFull count) ∷ past) legal = numbered made past legal.2
+numbered made (Collect id version ∷ past) legal = numbered made past legal.2
+numbered made (Pull osd from to asked ∷ past) legal = numbered made past legal.2
+numbered made (Tell osd applied ∷ past) legal = numbered made past legal.2
+numbered made (Begin kind answer ∷ past) legal = numbered made past legal.2
+numbered made (Open serial listed answer ∷ past) legal = numbered made past legal.2
+numbered made (Take place map answer ∷ past) legal = numbered made past legal.2
+numbered made (Close chunk answer ∷ past) legal = numbered made past legal.2
 
 -- ---- ids
 
@@ -73,24 +49,80 @@ same_id_is a b e =
     let serial : a.serial ≡ b.serial = grind (arith, nat_tests, parts.1) in
     λ i. record { client = client i; serial = serial i }
 
+-- The ids of the log differ from each other and from those of the writes that wait, which differ from each other.
+pub record IsApart (past : List Event) : Type 0 where
+  pub logged : AreDistinct (ids past)
+  pub waits : AreNew (ids past) (parked past)
+
+same_apart : (past new : List Event) → ids new ≡ ids past → parked new ≡ parked past → IsApart past → IsApart new
+same_apart past new i p h = record {
+  logged = subst AreDistinct (sym i) h.logged;
+  waits = subst (λ writes. AreNew (ids new) writes) (sym p) (subst (λ list. AreNew list (parked past)) (sym i) h.waits);
+}
+
+taken_up : (past : List Event) (write : Write) → IsFirst (open_chunk past) (parked past) write → IsApart past
+    → AreDistinct (ids past) × AreNew (ids past) (without write.id (parked past))
+taken_up past write first h = (h.logged, new_rest (ids past) (parked past) first.rest write first.whole h.waits)
+
+accepted_apart : (past : List Event) (write : Write) (version : Version) → IsFirst (open_chunk past) (parked past) write → IsApart past
+    → AreDistinct ((write.id, version) ∷ ids past) × AreNew ((write.id, version) ∷ ids past) (without write.id (parked past))
+accepted_apart past write version first h = (
+  (first_new (ids past) (parked past) first.rest write first.whole h.waits, h.logged),
+  new_admitted (ids past) (parked past) first.rest write version first.whole h.waits,
+)
+
+pub apart : (made : Made) (past : List Event) → IsLegal made past → IsApart past
+apart made [] legal = record { logged = tt; waits = tt }
+apart made (Submit write (Accepted version preempts) ∷ past) legal =
+    let h = apart made past legal.2 in
+    let a = accepted_is made past write version preempts legal.1 in
+    record {
+      logged = (a.new, h.logged);
+      waits = new_logged (ids past) (parked past) write.id version h.waits (apart_is (open_chunk past) (parked past) write.id a.apart legal.0);
+    }
+apart made (Submit write (Declined why) ∷ past) legal = same_apart past (Submit write (Declined why) ∷ past) refl refl (apart made past legal.2)
+apart made (Submit write (Parked range) ∷ past) legal =
+    let h = apart made past legal.2 in
+    record { logged = h.logged; waits = new_last (ids past) (parked past) write h.waits (parked_is made past write range legal.1).0 }
+apart made (Submit write (QueueFull count) ∷ past) legal = same_apart past (Submit write (QueueFull count) ∷ past) refl refl (apart made past legal.2)
+apart made (Admit write (Accepted version preempts) ∷ past) legal =
+    let h = accepted_apart past write version (first_is (open_chunk past) (parked past) write legal.1.0) (apart made past legal.2) in
+    record { logged = h.0; waits = h.1 }
+apart made (Admit write (Declined why) ∷ past) legal =
+    let h = taken_up past write (first_is (open_chunk past) (parked past) write legal.1.0) (apart made past legal.2) in
+    record { logged = h.0; waits = h.1 }
+apart made (Admit write (Parked range) ∷ past) legal =
+    let h = taken_up past write (first_is (open_chunk past) (parked past) write legal.1.0) (apart made past legal.2) in
+    record { logged = h.0; waits = h.1 }
+apart made (Admit write (QueueFull count) ∷ past) legal =
+    let h = taken_up past write (first_is (open_chunk past) (parked past) write legal.1.0) (apart made past legal.2) in
+    record { logged = h.0; waits = h.1 }
+apart made (Collect id version ∷ past) legal = same_apart past (Collect id version ∷ past) refl refl (apart made past legal.2)
+apart made (Pull osd from to asked ∷ past) legal = same_apart past (Pull osd from to asked ∷ past) refl refl (apart made past legal.2)
+apart made (Tell osd applied ∷ past) legal = same_apart past (Tell osd applied ∷ past) refl refl (apart made past legal.2)
+apart made (Begin kind answer ∷ past) legal = same_apart past (Begin kind answer ∷ past) refl refl (apart made past legal.2)
+apart made (Open serial listed answer ∷ past) legal = same_apart past (Open serial listed answer ∷ past) refl refl (apart made past legal.2)
+apart made (Take place map answer ∷ past) legal = same_apart past (Take place map answer ∷ past) refl refl (apart made past legal.2)
+apart made (Close chunk answer ∷ past) legal = same_apart past (Close chunk answer ∷ past) refl refl (apart made past legal.2)
+
 pub distinct : (made : Made) (past : List Event) → IsLegal made past → AreDistinct (ids past)
-distinct made [] legal = tt
-distinct made (Submit write (Accepted version) ∷ past) legal = ((accepted_is made past write version legal.0).new, distinct made past legal.1)
-distinct made (Submit write (Declined why) ∷ past) legal = distinct made past legal.1
-distinct made (Collect id version ∷ past) legal = distinct made past legal.1
-distinct made (Pull osd from to ∷ past) legal = distinct made past legal.1
-distinct made (Tell osd applied ∷ past) legal = distinct made past legal.1
-distinct made (Begin kind answer ∷ past) legal = distinct made past legal.1
-distinct made (Open serial listed answer ∷ past) legal = distinct made past legal.1
-distinct made (Take place map answer ∷ past) legal = distinct made past legal.1
-distinct made (Close chunk answer ∷ past) legal = distinct made past legal.1
+distinct made past legal = (apart made past legal).logged
+
+pub waits_apart : (made : Made) (past : List Event) → IsLegal made past → AreNew (ids past) (parked past)
+waits_apart made past legal = (apart made past legal).waits
 
 pub as_many : (past : List Event) → length (ids past) ≡ length (log past)
 as_many [] = refl
-as_many (Submit write (Accepted version) ∷ past) = ap suc (as_many past)
+as_many (Submit write (Accepted version preempts) ∷ past) = ap suc (as_many past)
 as_many (Submit write (Declined why) ∷ past) = as_many past
+as_many (Submit write (Parked range) ∷ past) = as_many past
+as_many (Submit write (QueueFull count) ∷ past) = as_many past
+as_many (Admit write (Accepted version preempts) ∷ past) = ap suc (as_many past)
+as_many (Admit write (Declined why) ∷ past) = as_many past
+as_many (Admit write (Parked range) ∷ past) = as_many past
+as_many (Admit write (QueueFull count) ∷ past) = as_many past
 as_many (Collect id version ∷ past) = as_many past
-as_many (Pull osd from to ∷ past) = as_many past
+as_many (Pull osd from to asked ∷ past) = as_many past
 as_many (Tell osd applied ∷ past) = as_many past
 as_many (Begin kind answer ∷ past) = as_many past
 as_many (Open serial listed answer ∷ past) = as_many past
@@ -122,25 +154,37 @@ once (entry ∷ entries) id version apart e =
       | false ↦ λ other rest. let one : times entries id ≡ 1 = once entries id version apart.1 rest in omega arith
     ]) refl e
 
+within_more : (past : List Event) (put id : ReqId) (v version : Version) → length (log past) + 1 ≡ v.number
+    → (version_in (ids past) id ≡ Some version → version.number ≤ length (log past))
+    → cond (same_id put id) (Some v) (version_in (ids past) id) ≡ Some version → version.number ≤ suc (length (log past))
+within_more past put id v version next before e =
+    let P : Bool → Type 0 = λ t. cond t (Some v) (version_in (ids past) id) ≡ Some version → version.number ≤ suc (length (log past)) in
+    (elim (same_id put id) as P [
+      | true ↦ λ found. let same : v.number ≡ version.number = ap (λ w. w.number) (some_same v version found) in omega arith
+      | false ↦ λ rest. let less : version.number ≤ length (log past) = before rest in omega arith
+    ]) e
+
 -- a version that is found is that of an item of the log
 pub version_within : (made : Made) (past : List Event) (id : ReqId) (version : Version) → IsLegal made past → version_in (ids past) id ≡ Some version
     → version.number ≤ length (log past)
 version_within made [] id version legal e = absurd (none_some version e)
-version_within made (Submit write (Accepted v) ∷ past) id version legal e =
-    let P : Bool → Type 0 = λ t. cond t (Some v) (version_in (ids past) id) ≡ Some version → version.number ≤ suc (length (log past)) in
-    let next : length (log past) + 1 ≡ v.number = ap (λ w. w.number) (accepted_is made past write v legal.0).next in
-    (elim (same_id write.id id) as P [
-      | true ↦ λ found. let same : v.number ≡ version.number = ap (λ w. w.number) (some_same v version found) in omega arith
-      | false ↦ λ rest. let less : version.number ≤ length (log past) = version_within made past id version legal.1 rest in omega arith
-    ]) e
-version_within made (Submit write (Declined why) ∷ past) id version legal e = version_within made past id version legal.1 e
-version_within made (Collect other w ∷ past) id version legal e = version_within made past id version legal.1 e
-version_within made (Pull osd from to ∷ past) id version legal e = version_within made past id version legal.1 e
-version_within made (Tell osd applied ∷ past) id version legal e = version_within made past id version legal.1 e
-version_within made (Begin kind answer ∷ past) id version legal e = version_within made past id version legal.1 e
-version_within made (Open serial listed answer ∷ past) id version legal e = version_within made past id version legal.1 e
-version_within made (Take place map answer ∷ past) id version legal e = version_within made past id version legal.1 e
-version_within made (Close chunk answer ∷ past) id version legal e = version_within made past id version legal.1 e
+version_within made (Submit write (Accepted v preempts) ∷ past) id version legal e =
+    within_more past write.id id v version (ap (λ w. w.number) (accepted_is made past write v preempts legal.1).next) (λ rest. version_within made past id version legal.2 rest) e
+version_within made (Submit write (Declined why) ∷ past) id version legal e = version_within made past id version legal.2 e
+version_within made (Submit write (Parked range) ∷ past) id version legal e = version_within made past id version legal.2 e
+version_within made (Submit write (QueueFull count) ∷ past) id version legal e = version_within made past id version legal.2 e
+version_within made (Admit write (Accepted v preempts) ∷ past) id version legal e =
+    within_more past write.id id v version (ap (λ w. w.number) (admitted_is made past write v preempts legal.1.1).next) (λ rest. version_within made past id version legal.2 rest) e
+version_within made (Admit write (Declined why) ∷ past) id version legal e = version_within made past id version legal.2 e
+version_within made (Admit write (Parked range) ∷ past) id version legal e = version_within made past id version legal.2 e
+version_within made (Admit write (QueueFull count) ∷ past) id version legal e = version_within made past id version legal.2 e
+version_within made (Collect other w ∷ past) id version legal e = version_within made past id version legal.2 e
+version_within made (Pull osd from to asked ∷ past) id version legal e = version_within made past id version legal.2 e
+version_within made (Tell osd applied ∷ past) id version legal e = version_within made past id version legal.2 e
+version_within made (Begin kind answer ∷ past) id version legal e = version_within made past id version legal.2 e
+version_within made (Open serial listed answer ∷ past) id version legal e = version_within made past id version legal.2 e
+version_within made (Take place map answer ∷ past) id version legal e = version_within made past id version legal.2 e
+version_within made (Close chunk answer ∷ past) id version legal e = version_within made past id version legal.2 e
 
 -- ---- pulls
 
@@ -149,19 +193,25 @@ max_within a b n p q = omega arith
 
 pub pulled_within : (made : Made) (past : List Event) (osd : ℕ) → IsLegal made past → pulled past osd ≤ length (log past)
 pulled_within made [] osd legal = omega arith
-pulled_within made (Submit write (Accepted version) ∷ past) osd legal = let rest : pulled past osd ≤ length (log past) = pulled_within made past osd legal.1 in omega arith
-pulled_within made (Submit write (Declined why) ∷ past) osd legal = pulled_within made past osd legal.1
-pulled_within made (Collect id version ∷ past) osd legal = pulled_within made past osd legal.1
-pulled_within made (Pull other from to ∷ past) osd legal =
-    let rest : pulled past osd ≤ length (log past) = pulled_within made past osd legal.1 in
-    let last : to ≡ length (log past) = legal.0.ends in
+pulled_within made (Submit write (Accepted version preempts) ∷ past) osd legal = let rest : pulled past osd ≤ length (log past) = pulled_within made past osd legal.2 in omega arith
+pulled_within made (Submit write (Declined why) ∷ past) osd legal = pulled_within made past osd legal.2
+pulled_within made (Submit write (Parked range) ∷ past) osd legal = pulled_within made past osd legal.2
+pulled_within made (Submit write (QueueFull count) ∷ past) osd legal = pulled_within made past osd legal.2
+pulled_within made (Admit write (Accepted version preempts) ∷ past) osd legal = let rest : pulled past osd ≤ length (log past) = pulled_within made past osd legal.2 in omega arith
+pulled_within made (Admit write (Declined why) ∷ past) osd legal = pulled_within made past osd legal.2
+pulled_within made (Admit write (Parked range) ∷ past) osd legal = pulled_within made past osd legal.2
+pulled_within made (Admit write (QueueFull count) ∷ past) osd legal = pulled_within made past osd legal.2
+pulled_within made (Collect id version ∷ past) osd legal = pulled_within made past osd legal.2
+pulled_within made (Pull other from to asked ∷ past) osd legal =
+    let rest : pulled past osd ≤ length (log past) = pulled_within made past osd legal.2 in
+    let last : to ≡ length (log past) = legal.1.ends in
     let P : Bool → Type 0 = λ t. cond t (max (pulled past osd) to) (pulled past osd) ≤ length (log past) in
     (elim (other == osd) as P [
       | true ↦ max_within (pulled past osd) to (length (log past)) rest (omega arith)
       | false ↦ rest
     ])
-pulled_within made (Tell other applied ∷ past) osd legal = pulled_within made past osd legal.1
-pulled_within made (Begin kind answer ∷ past) osd legal = pulled_within made past osd legal.1
-pulled_within made (Open serial listed answer ∷ past) osd legal = pulled_within made past osd legal.1
-pulled_within made (Take place map answer ∷ past) osd legal = pulled_within made past osd legal.1
-pulled_within made (Close chunk answer ∷ past) osd legal = pulled_within made past osd legal.1
+pulled_within made (Tell other applied ∷ past) osd legal = pulled_within made past osd legal.2
+pulled_within made (Begin kind answer ∷ past) osd legal = pulled_within made past osd legal.2
+pulled_within made (Open serial listed answer ∷ past) osd legal = pulled_within made past osd legal.2
+pulled_within made (Take place map answer ∷ past) osd legal = pulled_within made past osd legal.2
+pulled_within made (Close chunk answer ∷ past) osd legal = pulled_within made past osd legal.2

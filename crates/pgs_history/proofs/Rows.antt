@@ -14,6 +14,8 @@ use Rattle.pgs_range.proofs.Ends.{bound_total}
 use Rattle.pgs_range.proofs.Rows.{held_once}
 use Rattle.pgs_chunk.specs.Positions.{Ascends}
 use Rattle.pgs_chunk.proofs.Chunks.{chunk_rises}
+use Rattle.pgs_request.specs.declared.version.Version.{Version}
+use Rattle.pgs_op.specs.declared.write.Write.{Write}
 use Rattle.pgs_compare.specs.declared.report.Report.{Report}
 use Rattle.pgs_history.specs.Scrubs.{begun, running, open_chunk, has_number, end_of, start, limit_now, closed_ranges, with_range, completed, is_of}
 use Rattle.pgs_history.specs.Answers.{is_last, is_greatest, next_chunk}
@@ -22,7 +24,8 @@ use Rattle.pgs_history.specs.Chunks.{AreTiled}
 use Rattle.pgs_history.specs.declared.made.Made.{Made}
 use Rattle.pgs_history.specs.declared.chunk.Chunk.{Chunk}
 use Rattle.pgs_history.specs.declared.event.Event.{Event}
-use Rattle.pgs_history.specs.declared.event.Event.TheVariants.{Submit, Collect, Pull, Tell, Begin, Open, Take, Close}
+use Rattle.pgs_history.specs.declared.event.Event.TheVariants.{Submit, Admit, Collect, Pull, Tell, Begin, Open, Take, Close}
+use Rattle.pgs_history.specs.declared.write_answer.WriteAnswer.TheVariants.{Declined, Parked, QueueFull, Accepted}
 use Rattle.pgs_history.specs.declared.begin_answer.BeginAnswer.TheVariants.{Busy, Began}
 use Rattle.pgs_history.specs.declared.open_answer.OpenAnswer.TheVariants.{Already, Opened}
 use Rattle.pgs_history.specs.declared.close_answer.CloseAnswer.TheVariants as ends
@@ -76,6 +79,15 @@ alike : (past : List Event) (event : Event) → begun (event ∷ past) ≡ begun
     → start (event ∷ past) ≡ start past → ((serial : ℕ) → closed_ranges (event ∷ past) serial ≡ closed_ranges past serial)
     → ((serial : ℕ) → completed (event ∷ past) serial ≡ completed past serial) → IsWalk past → IsWalk (event ∷ past)
 alike past event b r o s ranges c h = stays past (event ∷ past) (record { begins = b; runs = r; opens = o; starts = s; ranges = ranges; completes = c }) h
+
+-- the open chunk gives way to a write
+gives_way : (past : List Event) (write : Write) (version : Version) (number : ℕ) → IsWalk past → IsWalk (Submit write (Accepted version (Some number)) ∷ past)
+gives_way past write version number h = record {
+  chunk = λ c is. absurd (none_some c is);
+  known = h.known;
+  below = h.below;
+  each = λ serial. let s = h.each serial in record { end = s.end; row = s.row; whole = s.whole; now = s.now; fresh = s.fresh };
+}
 
 -- ---- a scrub more
 
@@ -221,24 +233,30 @@ walked made [] legal = record {
   below = λ serial e. absurd (none_some serial e);
   each = λ serial. record { end = Min; row = refl; whole = λ e. absurd (true_false (sym e)); now = λ e. absurd (none_some serial e); fresh = λ e. (refl, refl) };
 }
-walked made (Submit write answer ∷ past) legal = alike past (Submit write answer) refl refl refl refl (λ s. refl) (λ s. refl) (walked made past legal.1)
-walked made (Collect id version ∷ past) legal = alike past (Collect id version) refl refl refl refl (λ s. refl) (λ s. refl) (walked made past legal.1)
-walked made (Pull osd from to ∷ past) legal = alike past (Pull osd from to) refl refl refl refl (λ s. refl) (λ s. refl) (walked made past legal.1)
-walked made (Tell osd applied ∷ past) legal = alike past (Tell osd applied) refl refl refl refl (λ s. refl) (λ s. refl) (walked made past legal.1)
-walked made (Take place map answer ∷ past) legal = alike past (Take place map answer) refl refl refl refl (λ s. refl) (λ s. refl) (walked made past legal.1)
-walked made (Begin kind (Busy serial) ∷ past) legal = alike past (Begin kind (Busy serial)) refl refl refl refl (λ s. refl) (λ s. refl) (walked made past legal.1)
+walked made (Submit write (Declined why) ∷ past) legal = alike past (Submit write (Declined why)) refl refl refl refl (λ s. refl) (λ s. refl) (walked made past legal.2)
+walked made (Submit write (Parked range) ∷ past) legal = alike past (Submit write (Parked range)) refl refl refl refl (λ s. refl) (λ s. refl) (walked made past legal.2)
+walked made (Submit write (QueueFull count) ∷ past) legal = alike past (Submit write (QueueFull count)) refl refl refl refl (λ s. refl) (λ s. refl) (walked made past legal.2)
+walked made (Submit write (Accepted version None) ∷ past) legal = alike past (Submit write (Accepted version None)) refl refl refl refl (λ s. refl) (λ s. refl) (walked made past legal.2)
+walked made (Submit write (Accepted version (Some number)) ∷ past) legal = gives_way past write version number (walked made past legal.2)
+walked made (Admit write answer ∷ past) legal = alike past (Admit write answer) refl refl refl refl (λ s. refl) (λ s. refl) (walked made past legal.2)
+walked made (Collect id version ∷ past) legal = alike past (Collect id version) refl refl refl refl (λ s. refl) (λ s. refl) (walked made past legal.2)
+walked made (Pull osd from to asked ∷ past) legal = alike past (Pull osd from to asked) refl refl refl refl (λ s. refl) (λ s. refl) (walked made past legal.2)
+walked made (Tell osd applied ∷ past) legal = alike past (Tell osd applied) refl refl refl refl (λ s. refl) (λ s. refl) (walked made past legal.2)
+walked made (Take place map answer ∷ past) legal = alike past (Take place map answer) refl refl refl refl (λ s. refl) (λ s. refl) (walked made past legal.2)
+walked made (Begin kind (Busy serial) ∷ past) legal = alike past (Begin kind (Busy serial)) refl refl refl refl (λ s. refl) (λ s. refl) (walked made past legal.2)
 walked made (Begin kind (Began serial) ∷ past) legal =
-    let is = began_is past serial legal.0 in
-    begins past kind serial is.0 is.1 (walked made past legal.1)
-walked made (Open serial listed (Already chunk) ∷ past) legal = alike past (Open serial listed (Already chunk)) refl refl refl refl (λ s. refl) (λ s. refl) (walked made past legal.1)
+    let is = began_is past serial legal.1 in
+    begins past kind serial is.0 is.1 (walked made past legal.2)
+walked made (Open serial listed (Already chunk) ∷ past) legal = alike past (Open serial listed (Already chunk)) refl refl refl refl (λ s. refl) (λ s. refl) (walked made past legal.2)
 walked made (Open serial listed (Opened chunk) ∷ past) legal =
-    opens made past serial listed chunk legal.0.0 legal.0.1 (opened_is made past serial listed chunk legal.0.2).1 (walked made past legal.1)
-walked made (Close number ends.NoChunk ∷ past) legal = alike past (Close number ends.NoChunk) refl refl refl refl (λ s. refl) (λ s. refl) (walked made past legal.1)
-walked made (Close number ends.ClosedBefore ∷ past) legal = alike past (Close number ends.ClosedBefore) refl refl refl refl (λ s. refl) (λ s. refl) (walked made past legal.1)
-walked made (Close number (ends.NotYet osd) ∷ past) legal = absurd legal.0.1
+    opens made past serial listed chunk legal.1.0 legal.1.1 (opened_is made past serial listed chunk legal.1.2).1 (walked made past legal.2)
+walked made (Close number ends.NoChunk ∷ past) legal = alike past (Close number ends.NoChunk) refl refl refl refl (λ s. refl) (λ s. refl) (walked made past legal.2)
+walked made (Close number ends.ClosedBefore ∷ past) legal = alike past (Close number ends.ClosedBefore) refl refl refl refl (λ s. refl) (λ s. refl) (walked made past legal.2)
+walked made (Close number (ends.Preempted request) ∷ past) legal = alike past (Close number (ends.Preempted request)) refl refl refl refl (λ s. refl) (λ s. refl) (walked made past legal.2)
+walked made (Close number (ends.NotYet osd) ∷ past) legal = absurd legal.1.1
 walked made (Close number (ends.Closed report completes) ∷ past) legal =
-    let closed = closed_is made past number report completes legal.0.0 in
-    closed_some past number report completes (walked made past legal.1) (open_chunk past) refl closed.was_open closed.last
+    let closed = closed_is made past number report completes legal.1.0 in
+    closed_some past number report completes (walked made past legal.2) (open_chunk past) refl closed.was_open closed.last
 
 pub tiled : (made : Made) (past : List Event) → IsLegal made past → AreTiled past
 tiled made past legal serial =

@@ -7,13 +7,15 @@ use Rattle.pgs_bytes.proofs.Facts.{true_false}
 use Rattle.pgs_name.specs.declared.object_id.ObjectId.{ObjectId}
 use Rattle.pgs_op.specs.Refusals.{first}
 use Rattle.pgs_compare.specs.declared.report.Report.{Report}
-use Rattle.pgs_history.specs.Scrubs.{running, begun, opened, open_chunk, is_open}
-use Rattle.pgs_history.specs.Answers.{unclosed, or_closed, found, is_last, missing, begin_answered, begin_answer, open_answer, open_answered, next_chunk, close_answer}
+use Rattle.pgs_history.specs.Scrubs.{running, begun, opened, open_chunk, is_open, fate}
+use Rattle.pgs_history.specs.Answers.{unclosed, told_of, or_closed, found, is_last, missing, begin_answered, begin_answer, open_answer, open_answered, next_chunk, close_answer}
 use Rattle.pgs_history.specs.declared.made.Made.{Made}
 use Rattle.pgs_history.specs.declared.chunk.Chunk.{Chunk}
 use Rattle.pgs_history.specs.declared.event.Event.{Event}
 use Rattle.pgs_history.specs.declared.begin_answer.BeginAnswer.TheVariants.{Began}
 use Rattle.pgs_history.specs.declared.open_answer.OpenAnswer.TheVariants.{Opened}
+use Rattle.pgs_history.specs.declared.fate.Fate.{Fate}
+use Rattle.pgs_history.specs.declared.fate.Fate.TheVariants as fates_are
 use Rattle.pgs_history.specs.declared.close_answer.CloseAnswer.TheVariants as ends
 
 -- ---- a scrub that began
@@ -51,18 +53,24 @@ not_false : (a : Bool) → not a ≡ false → a ≡ true
 not_false true e = refl
 not_false false e = absurd (true_false e)
 
-closed_from : (a b : Bool) (m : Option ℕ) (n report : Report) (last completes : Bool)
-    → ends.Closed report completes ≡ or_closed (first (then_some a ends.NoChunk ∷ then_some b ends.ClosedBefore ∷ option_map (λ osd. ends.NotYet osd) m ∷ [])) n last
+-- what is told of a chunk that isn't open isn't that it was closed now
+not_told : (fate : Option Fate) (report : Report) (completes : Bool) → ends.Closed report completes ≡ told_of fate → ⊥
+not_told None report completes e = absurd cc
+not_told (Some fates_are.Closed) report completes e = absurd cc
+not_told (Some (fates_are.Preempted request)) report completes e = absurd cc
+
+closed_from : (a b : Bool) (fate : Option Fate) (m : Option ℕ) (n report : Report) (last completes : Bool)
+    → ends.Closed report completes ≡ or_closed (first (then_some a ends.NoChunk ∷ then_some b (told_of fate) ∷ option_map (λ osd. ends.NotYet osd) m ∷ [])) n last
     → (a ≡ false) × (b ≡ false) × (completes ≡ last)
-closed_from true b m n report last completes e = absurd cc
-closed_from false true m n report last completes e = absurd cc
-closed_from false false (Some osd) n report last completes e = absurd cc
-closed_from false false None n report last completes e = (refl, refl, cc)
+closed_from true b fate m n report last completes e = absurd cc
+closed_from false true fate m n report last completes e = absurd (not_told fate report completes e)
+closed_from false false fate (Some osd) n report last completes e = absurd cc
+closed_from false false fate None n report last completes e = (refl, refl, cc)
 
 pub closed_is : (made : Made) (past : List Event) (number : ℕ) (report : Report) (completes : Bool) → ends.Closed report completes ≡ close_answer made past number → IsClosed past number completes
 unfolding unclosed
 closed_is made past number report completes e =
-    let h = closed_from ((number == 0) || nat_lt (opened past) number) (not (is_open past number)) (missing made past number) (found made past number) report
+    let h = closed_from ((number == 0) || nat_lt (opened past) number) (not (is_open past number)) (fate past number) (missing made past number) (found made past number) report
     (is_last (open_chunk past)) completes e in
     let within = either (number == 0) (nat_lt (opened past) number) h.0 in
     record {

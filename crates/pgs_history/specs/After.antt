@@ -1,36 +1,54 @@
 -- The events of a group after each step. A quiet answer, which changes nothing and is asked for again, is no event.
-use Rattle.std.specs.Prelude.{ℕ, nat_lt, List, ◌∷◌, if◌then◌else◌}
+use Rattle.std.specs.Prelude.{ℕ, nat_lt, ◌||◌, Bool, List, ◌∷◌, Option, Some, None, is_some, if◌then◌else◌}
 use Rattle.pgs_request.specs.declared.req_id.ReqId.{ReqId}
-use Rattle.pgs_request.specs.declared.answers.CollectAnswer.{CollectAnswer}
-use Rattle.pgs_request.specs.declared.answers.CollectAnswer.TheVariants.{Unknown, NotYet, Acked}
 use Rattle.pgs_op.specs.declared.write.Write.{Write}
 use Rattle.pgs_history.specs.Members.{collected, pulled, told}
 use Rattle.pgs_name.specs.declared.object_id.ObjectId.{ObjectId}
 use Rattle.pgs_chunk.specs.declared.kind.Kind.{Kind}
 use Rattle.pgs_map.specs.declared.scrub_map.ScrubMap.{ScrubMap}
-use Rattle.pgs_history.specs.Answers.{submit_answer, collect_answer, last_number, begin_answer, open_answer, take_answer, close_answer}
+use Rattle.pgs_history.specs.Parked.{next_admitted}
+use Rattle.pgs_history.specs.Answers.{submit_answer, admit_answer, collect_answer, last_number, new_ask, begin_answer, open_answer, take_answer, close_answer}
+use Rattle.pgs_history.specs.declared.collect_answer.CollectAnswer.{CollectAnswer}
+use Rattle.pgs_history.specs.declared.collect_answer.CollectAnswer.TheVariants as collects
 use Rattle.pgs_history.specs.declared.close_answer.CloseAnswer.{CloseAnswer}
 use Rattle.pgs_history.specs.declared.close_answer.CloseAnswer.TheVariants as closes
 use Rattle.pgs_history.specs.declared.event.Event.{Event}
-use Rattle.pgs_history.specs.declared.event.Event.TheVariants.{Submit, Collect, Pull, Tell, Begin, Open, Take, Close}
+use Rattle.pgs_history.specs.declared.event.Event.TheVariants.{Submit, Admit, Collect, Pull, Tell, Begin, Open, Take, Close}
 use Rattle.pgs_history.specs.declared.made.Made.{Made}
 
 -- every answer to a write is an event
 abbrev pub after_submit : Made → List Event → Write → List Event
 after_submit made past write = Submit write (submit_answer made past write) ∷ past
 
+abbrev pub with_admit : Made → List Event → Option Write → List Event
+with_admit made past None = past
+with_admit made past (Some write) = Admit write (admit_answer made past write) ∷ past
+
+-- a write that waited is taken up where one is due
+abbrev pub after_admit : Made → List Event → List Event
+after_admit made past = with_admit made past (next_admitted past)
+
 -- the first acknowledgement that a client learns is one
 abbrev pub after_collected : List Event → ReqId → CollectAnswer → List Event
-after_collected past id Unknown = past
-after_collected past id (NotYet osd count) = past
-after_collected past id (Acked version) = if collected past id then past else Collect id version ∷ past
+after_collected past id (collects.StillParked chunk) = past
+after_collected past id (collects.Refused refusal) = past
+after_collected past id collects.Unknown = past
+after_collected past id (collects.NotYet osd count) = past
+after_collected past id (collects.Acked version) = if collected past id then past else Collect id version ∷ past
 
 abbrev pub after_collect : Made → List Event → ReqId → List Event
 after_collect made past id = after_collected past id (collect_answer made past id)
 
--- a pull that gives items is one
+-- a pull gives something where it gives items, or the open chunk for the first time
+abbrev pub gives : List Event → ℕ → Option ℕ → Bool
+gives past osd asked = nat_lt (pulled past osd) (last_number past) || is_some asked
+
+abbrev pub with_pull : List Event → ℕ → Option ℕ → List Event
+with_pull past osd asked = if gives past osd asked then Pull osd (pulled past osd) (last_number past) asked ∷ past else past
+
+-- a pull that gives something is one
 abbrev pub after_pull : List Event → ℕ → List Event
-after_pull past osd = if nat_lt (pulled past osd) (last_number past) then Pull osd (pulled past osd) (last_number past) ∷ past else past
+after_pull past osd = with_pull past osd (new_ask past osd)
 
 -- a count that is greater than those before is one
 abbrev pub after_tell : List Event → ℕ → ℕ → List Event
@@ -53,6 +71,7 @@ abbrev pub after_closed : List Event → ℕ → CloseAnswer → List Event
 after_closed past chunk (closes.NotYet osd) = past
 after_closed past chunk closes.NoChunk = Close chunk closes.NoChunk ∷ past
 after_closed past chunk closes.ClosedBefore = Close chunk closes.ClosedBefore ∷ past
+after_closed past chunk (closes.Preempted request) = Close chunk (closes.Preempted request) ∷ past
 after_closed past chunk (closes.Closed report completes) = Close chunk (closes.Closed report completes) ∷ past
 
 abbrev pub after_close : Made → List Event → ℕ → List Event

@@ -1,29 +1,36 @@
 -- The answers of a group, by the events before: the first row of a table whose condition holds.
-use Rattle.std.specs.Prelude.{ℕ, ◌+◌, ◌==◌, ◌||◌, nat_lt, max, Bool, false, true, not, List, [], ◌∷◌, length, Option, Some, None, option_map, is_none, find, if◌then◌else◌, slice_get}
+use Rattle.std.specs.Prelude.{ℕ, ◌+◌, ◌==◌, ◌||◌, ◌&&◌, nat_lt, nat_le, max, Bool, false, true, not, List, [], ◌∷◌, length, Option, Some, None, option_map, is_none, find, if◌then◌else◌, slice_get}
 use Rattle.std.specs.Bool.{then_some}
 use Rattle.pgs_request.specs.Contexts.{bad_place}
 use Rattle.pgs_request.specs.declared.req_id.ReqId.{ReqId}
 use Rattle.pgs_request.specs.declared.version.Version.{Version}
 use Rattle.pgs_request.specs.declared.answers.Refusal.{Refusal}
-use Rattle.pgs_request.specs.declared.answers.Declined.{Declined as DeclinedWrite}
 use Rattle.pgs_request.specs.declared.answers.Declined.TheVariants.{Repeat, BadSnapContext, Refused}
-use Rattle.pgs_request.specs.declared.answers.WriteAnswer.{WriteAnswer}
-use Rattle.pgs_request.specs.declared.answers.WriteAnswer.TheVariants.{Declined, Accepted}
-use Rattle.pgs_request.specs.declared.answers.CollectAnswer.{CollectAnswer}
-use Rattle.pgs_request.specs.declared.answers.CollectAnswer.TheVariants.{Unknown, NotYet, Acked}
 use Rattle.pgs_op.specs.Refusals.{first, refusal_of}
 use Rattle.pgs_op.specs.declared.write.Write.{Write}
+use Rattle.pgs_name.specs.Families.{Family}
+use Rattle.pgs_gate.specs.Gate.{OpenChunk, verdict_of}
+use Rattle.pgs_gate.specs.Waits.{is_parked}
+use Rattle.pgs_gate.specs.declared.limits.TheConstants.{MOST_PARKED}
+use Rattle.pgs_gate.specs.declared.verdict.Verdict.{Verdict}
+use Rattle.pgs_gate.specs.declared.verdict.Verdict.TheVariants.{Pass, Preempts, Waits}
 use Rattle.pgs_history.specs.Log.{clean, held, log, ids, log_bytes}
+use Rattle.pgs_history.specs.Parked.{parked, refused}
+use Rattle.pgs_history.specs.declared.write_answer.WriteAnswer.{WriteAnswer}
+use Rattle.pgs_history.specs.declared.write_answer.WriteAnswer.TheVariants.{Declined, Parked, QueueFull, Accepted}
+use Rattle.pgs_history.specs.declared.collect_answer.CollectAnswer.{CollectAnswer}
+use Rattle.pgs_history.specs.declared.collect_answer.CollectAnswer.TheVariants as collects
 use Rattle.pgs_op_log.specs.Logs.{version_in, greatest_in}
-use Rattle.pgs_history.specs.Members.{told}
+use Rattle.pgs_history.specs.Members.{told, asked}
 use Rattle.pgs_name.specs.declared.object_id.ObjectId.{ObjectId}
 use Rattle.pgs_range.specs.declared.bound.Bound.{Bound}
 use Rattle.pgs_range.specs.declared.bound.Bound.TheVariants.{Min, At, Max}
 use Rattle.pgs_chunk.specs.Chunk.{chunk_of}
+use Rattle.pgs_chunk.specs.declared.ask.Ask.{Ask}
 use Rattle.pgs_map.specs.declared.scrub_map.ScrubMap.{ScrubMap}
 use Rattle.pgs_compare.specs.Report.{report}
 use Rattle.pgs_compare.specs.declared.report.Report.{Report}
-use Rattle.pgs_history.specs.Scrubs.{begun, running, opened, open_chunk, has_number, is_open, start, limit_now, is_firm, taken}
+use Rattle.pgs_history.specs.Scrubs.{begun, running, last_kind, is_deep, opened, open_chunk, has_number, is_open, fate, start, limit_now, is_firm, taken}
 use Rattle.pgs_history.specs.declared.begin_answer.BeginAnswer.{BeginAnswer}
 use Rattle.pgs_history.specs.declared.begin_answer.BeginAnswer.TheVariants.{Busy, Began}
 use Rattle.pgs_history.specs.declared.chunk.Chunk.{Chunk}
@@ -33,6 +40,8 @@ use Rattle.pgs_history.specs.declared.take_answer.TakeAnswer.{TakeAnswer}
 use Rattle.pgs_history.specs.declared.take_answer.TakeAnswer.TheVariants.{Stale, Taken}
 use Rattle.pgs_history.specs.declared.close_answer.CloseAnswer.{CloseAnswer}
 use Rattle.pgs_history.specs.declared.close_answer.CloseAnswer.TheVariants as closes
+use Rattle.pgs_history.specs.declared.fate.Fate.{Fate}
+use Rattle.pgs_history.specs.declared.fate.Fate.TheVariants as ends
 use Rattle.pgs_history.specs.declared.event.Event.{Event}
 use Rattle.pgs_history.specs.declared.made.Made.{Made}
 
@@ -43,23 +52,70 @@ abbrev pub next_version : Made → List Event → Version
 next_version made past = record { epoch = made.epoch; number = length (log past) + 1 }
 
 -- why a write of a version makes no effects
-abbrev pub refused : List Event → Write → Version → Option Refusal
-refused past write version = refusal_of (held (log past)) (clean (log past) write.family) (log_bytes past) write version
+abbrev pub refusal : List Event → Write → Version → Option Refusal
+refusal past write version = refusal_of (held (log past)) (clean (log past) write.family) (log_bytes past) write version
 
--- why a write isn't appended: its id stands in the log, its context of snapshots has a bad place, or it makes no effects
-unfoldable pub declined : Made → List Event → Write → Option DeclinedWrite
-declined made past write = first (
-    option_map (λ version. Repeat version) (version_in (ids past) write.id)
-    ∷ option_map (λ place. BadSnapContext place) (bad_place write.context)
-    ∷ option_map (λ refusal. Refused refusal) (refused past write (next_version made past))
+-- what a write can meet of the chunk that is open, if one is
+abbrev pub gate_of : Option Chunk → Option OpenChunk
+gate_of None = None
+gate_of (Some chunk) = Some (record { range = chunk.range; firm = chunk.firm })
+
+-- what becomes of a write to a family
+abbrev pub verdict : List Event → Family → Verdict
+verdict past family = verdict_of (gate_of (open_chunk past)) family
+
+abbrev pub waits : Verdict → Bool
+waits Pass = false
+waits Preempts = false
+waits Waits = true
+
+-- the chunk that gives way, if one does
+abbrev pub giving_way : Verdict → Option Chunk → Option ℕ
+giving_way Pass now = None
+giving_way Preempts now = option_map (λ chunk. chunk.number) now
+giving_way Waits now = None
+
+-- the chunk that gives way to a write
+abbrev pub preempted : List Event → Write → Option ℕ
+preempted past write = giving_way (verdict past write.family) (open_chunk past)
+
+-- the answer to a write that waits for the open chunk
+abbrev pub parked_for : Option Chunk → Option WriteAnswer
+parked_for now = option_map (λ chunk. Parked chunk.range) now
+
+-- a row that holds only where a test does
+abbrev pub where_so : {A : Type 0} → Bool → Option A → Option A
+where_so test row = if test then row else None
+
+-- Why a write isn't appended now, in this order: its id stands in the log; it waits already; its context of snapshots has a bad place; it would wait, and
+-- no more may; it waits; it makes no effects.
+unfoldable pub unaccepted : Made → List Event → Write → Option WriteAnswer
+unaccepted made past write = first (
+    option_map (λ version. Declined (Repeat version)) (version_in (ids past) write.id)
+    ∷ where_so (is_parked (parked past) write.id) (parked_for (open_chunk past))
+    ∷ option_map (λ place. Declined (BadSnapContext place)) (bad_place write.context)
+    ∷ where_so (waits (verdict past write.family) && nat_le MOST_PARKED (length (parked past))) (Some (QueueFull MOST_PARKED))
+    ∷ where_so (waits (verdict past write.family)) (parked_for (open_chunk past))
+    ∷ option_map (λ refusal. Declined (Refused refusal)) (refusal past write (next_version made past))
     ∷ [])
 
-abbrev pub answered : Option DeclinedWrite → Version → WriteAnswer
-answered None version = Accepted version
-answered (Some why) version = Declined why
+abbrev pub or_accepted : Option WriteAnswer → Version → Option ℕ → WriteAnswer
+or_accepted None version preempts = Accepted version preempts
+or_accepted (Some why) version preempts = why
 
+-- a write that is accepted gets the next version, and the open chunk gives way to it where it must
 abbrev pub submit_answer : Made → List Event → Write → WriteAnswer
-submit_answer made past write = answered (declined made past write) (next_version made past)
+submit_answer made past write = or_accepted (unaccepted made past write) (next_version made past) (preempted past write)
+
+-- ---- admit
+
+abbrev pub or_admitted : Option Refusal → Version → WriteAnswer
+or_admitted None version = Accepted version None
+or_admitted (Some refusal) version = Declined (Refused refusal)
+
+-- a write that waited is accepted or makes no effects; no chunk is open that could give way
+abbrev pub admit_answer : Made → List Event → Write → WriteAnswer
+admit_answer made past write = or_admitted (refusal past write (next_version made past)) (next_version made past)
 
 -- ---- collect
 
@@ -68,22 +124,49 @@ abbrev pub behind : Made → List Event → ℕ → Option ℕ
 behind made past number = find (λ osd. nat_lt (told past osd) number) made.members
 
 abbrev pub waits_for : List Event → Option ℕ → Version → CollectAnswer
-waits_for past None version = Acked version
-waits_for past (Some osd) version = NotYet osd (told past osd)
+waits_for past None version = collects.Acked version
+waits_for past (Some osd) version = collects.NotYet osd (told past osd)
 
 abbrev pub collect_found : Made → List Event → Option Version → CollectAnswer
-collect_found made past None = Unknown
+collect_found made past None = collects.Unknown
 collect_found made past (Some version) = waits_for past (behind made past version.number) version
+
+-- why a request has no outcome in the log: its write waits still, or was refused when it was taken up
+unfoldable pub unlogged : List Event → ReqId → Option CollectAnswer
+unlogged past id = first (
+    where_so (is_parked (parked past) id) (option_map (λ chunk. collects.StillParked chunk.number) (open_chunk past))
+    ∷ option_map (λ refusal. collects.Refused refusal) (refused past id)
+    ∷ [])
+
+abbrev pub or_found : Option CollectAnswer → CollectAnswer → CollectAnswer
+or_found None found = found
+or_found (Some why) found = why
 
 -- a write is acknowledged where its id stands in the log and every acting OSD has told of it
 abbrev pub collect_answer : Made → List Event → ReqId → CollectAnswer
-collect_answer made past id = collect_found made past (version_in (ids past) id)
+collect_answer made past id = or_found (unlogged past id) (collect_found made past (version_in (ids past) id))
 
 -- ---- pull and tell
 
 -- the last item of the log
 abbrev pub last_number : List Event → ℕ
 last_number past = length (log past)
+
+abbrev pub ask_of : Option Chunk → Bool → Option Ask
+ask_of None deep = None
+ask_of (Some chunk) deep = Some (record { serial = chunk.serial; chunk = chunk.number; range = chunk.range; needed = chunk.version; deep = deep })
+
+-- what a member that pulls is asked for, where a chunk is open
+abbrev pub ask : List Event → Option Ask
+ask past = ask_of (open_chunk past) (is_deep (last_kind past))
+
+abbrev pub newly : Option Chunk → ℕ → Option ℕ
+newly None before = None
+newly (Some chunk) before = if nat_lt before chunk.number then Some chunk.number else None
+
+-- the open chunk, where this OSD wasn't asked for it before
+abbrev pub new_ask : List Event → ℕ → Option ℕ
+new_ask past osd = newly (open_chunk past) (asked past osd)
 
 -- the count that is answered to an OSD which tells one
 abbrev pub tell_answer : List Event → ℕ → ℕ → ℕ
@@ -171,11 +254,17 @@ abbrev pub is_last : Option Chunk → Bool
 is_last None = false
 is_last (Some chunk) = is_greatest chunk.range.to
 
--- why a chunk isn't closed: it was never opened, it isn't open any more, or a map is missing
+-- what is told of a chunk that isn't open any more, by its fate
+abbrev pub told_of : Option Fate → CloseAnswer
+told_of None = closes.ClosedBefore
+told_of (Some ends.Closed) = closes.ClosedBefore
+told_of (Some (ends.Preempted request)) = closes.Preempted request
+
+-- why a chunk isn't closed: it was never opened, it was closed or gave way to a write, or a map is missing
 unfoldable pub unclosed : Made → List Event → ℕ → Option CloseAnswer
 unclosed made past chunk = first (
     then_some ((chunk == 0) || nat_lt (opened past) chunk) closes.NoChunk
-    ∷ then_some (not (is_open past chunk)) closes.ClosedBefore
+    ∷ then_some (not (is_open past chunk)) (told_of (fate past chunk))
     ∷ option_map (λ osd. closes.NotYet osd) (missing made past chunk)
     ∷ [])
 

@@ -1,11 +1,11 @@
 -- What holds of the scrubs and chunks of a legal history.
-use Rattle.std.specs.Prelude.{ℕ, ◌≡◌, ◌≤◌, ◌<◌, true, List, [], ◌∷◌, Some, if◌then◌else◌}
+use Rattle.std.specs.Prelude.{ℕ, ◌≡◌, ◌≤◌, ◌<◌, ◌+◌, true, List, [], ◌∷◌, length, Some, is_some, if◌then◌else◌, slice_get}
 use Rattle.pgs_name.specs.Families.{Family}
 use Rattle.pgs_range.specs.Rows.{AreInRow, times_held}
 use Rattle.pgs_range.specs.declared.bound.Bound.{Bound}
 use Rattle.pgs_range.specs.declared.bound.Bound.TheVariants.{Min, Max}
 use Rattle.pgs_map.specs.Entries.{AreInRange}
-use Rattle.pgs_history.specs.Scrubs.{opened, open_chunk, is_open, closes, closed_ranges, completed}
+use Rattle.pgs_history.specs.Scrubs.{opened, open_chunk, is_open, ends, fates, ended, closed_ranges, completed}
 use Rattle.pgs_history.specs.declared.chunk.Chunk.{Chunk}
 use Rattle.pgs_history.specs.declared.event.Event.{Event}
 use Rattle.pgs_history.specs.declared.event.Event.TheVariants.{Take}
@@ -23,11 +23,14 @@ AreOrdered (event ∷ past) = IsOrdered event × AreOrdered past
 
 -- ---- fates
 
--- Each chunk that was opened was closed once, but for the one that is open: so a chunk has at most one fate, and at most one chunk has none.
+-- Each chunk that was opened was closed or gave way to a write once, but for the one that is open: so a chunk has at most one fate, and at most one
+-- chunk has none. The fates stand in the order of the chunks' numbers.
 pub record AreFated (past : List Event) : Type 0 where
-  pub each : (chunk : ℕ) → 1 ≤ chunk → chunk ≤ opened past → closes past chunk ≡ (if is_open past chunk then 0 else 1)
-  pub others : (chunk : ℕ) → opened past < chunk → closes past chunk ≡ 0
+  pub each : (chunk : ℕ) → 1 ≤ chunk → chunk ≤ opened past → ends past chunk ≡ (if is_open past chunk then 0 else 1)
+  pub others : (chunk : ℕ) → opened past < chunk → ends past chunk ≡ 0
   pub last : (chunk : Chunk) → open_chunk past ≡ Some chunk → chunk.number ≡ opened past
+  pub count : length (fates past) + (if is_some (open_chunk past) then 1 else 0) ≡ opened past
+  pub told : (place : ℕ) → slice_get (fates past) place ≡ ended past (place + 1)
 
 -- ---- tiles
 

@@ -2,6 +2,7 @@
 pub mod Log
 pub mod Members
 pub mod Scrubs
+pub mod Parked
 pub mod Answers
 pub mod Chunks
 pub mod Findings

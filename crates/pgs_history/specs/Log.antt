@@ -1,4 +1,4 @@
--- The log of a group, by its events, the newest first: the items of the accepted writes.
+-- The log of a group, by its events, the newest first: the items of the writes that were accepted, at once or when they were taken up.
 use Rattle.std.specs.Prelude.{ℕ, ◌+◌, List, [], ◌∷◌, ◌++◌, if◌then◌else◌}
 use Rattle.std.specs.List.{list_any, sum_by}
 use Rattle.pgs_name.specs.Families.{Family}
@@ -10,12 +10,12 @@ use Rattle.pgs_store.specs.Stores.{Stored, nothing_stored, affected, copy_size}
 use Rattle.pgs_request.specs.Ops.{payload_size}
 use Rattle.pgs_request.specs.declared.req_id.ReqId.{ReqId}
 use Rattle.pgs_request.specs.declared.version.Version.{Version}
-use Rattle.pgs_request.specs.declared.answers.WriteAnswer.TheVariants.{Accepted}
 use Rattle.pgs_op.specs.Refusals.{effects_on}
 use Rattle.pgs_op.specs.declared.write.Write.{Write}
 use Rattle.pgs_medium.specs.declared.item.Item.{Item}
+use Rattle.pgs_history.specs.declared.write_answer.WriteAnswer.TheVariants.{Accepted}
 use Rattle.pgs_history.specs.declared.event.Event.{Event}
-use Rattle.pgs_history.specs.declared.event.Event.TheVariants.{Submit}
+use Rattle.pgs_history.specs.declared.event.Event.TheVariants.{Submit, Admit}
 
 -- ---- the store of the items alone
 
@@ -57,7 +57,8 @@ item_of version write items = record {
 }
 
 abbrev pub log_after : Event → List Item → List Item
-log_after (Submit write (Accepted version)) items = item_of version write items ∷ items
+log_after (Submit write (Accepted version preempts)) items = item_of version write items ∷ items
+log_after (Admit write (Accepted version preempts)) items = item_of version write items ∷ items
 log_after event items = items
 
 -- its items
@@ -66,7 +67,8 @@ log [] = []
 log (event ∷ past) = log_after event (log past)
 
 abbrev pub ids_after : Event → List (ReqId × Version) → List (ReqId × Version)
-ids_after (Submit write (Accepted version)) ids = (write.id, version) ∷ ids
+ids_after (Submit write (Accepted version preempts)) ids = (write.id, version) ∷ ids
+ids_after (Admit write (Accepted version preempts)) ids = (write.id, version) ∷ ids
 ids_after event ids = ids
 
 -- the ids of its requests, with their versions
@@ -75,7 +77,8 @@ ids [] = []
 ids (event ∷ past) = ids_after event (ids past)
 
 abbrev pub log_bytes_after : Event → ℕ → ℕ
-log_bytes_after (Submit write (Accepted version)) bytes = bytes + payload_size write.op
+log_bytes_after (Submit write (Accepted version preempts)) bytes = bytes + payload_size write.op
+log_bytes_after (Admit write (Accepted version preempts)) bytes = bytes + payload_size write.op
 log_bytes_after event bytes = bytes
 
 -- the bytes that it counts: those of the payloads

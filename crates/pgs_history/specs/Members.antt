@@ -1,18 +1,31 @@
 -- How far the members of a group are, by its events, the newest first.
-use Rattle.std.specs.Prelude.{ℕ, ◌==◌, ◌||◌, Bool, false, max, List, [], ◌∷◌, if◌then◌else◌}
+use Rattle.std.specs.Prelude.{ℕ, ◌==◌, ◌||◌, Bool, false, max, List, [], ◌∷◌, Option, Some, None, if◌then◌else◌}
 use Rattle.pgs_request.specs.declared.req_id.ReqId.{ReqId}
 use Rattle.pgs_op_log.specs.Logs.{same_id}
 use Rattle.pgs_history.specs.declared.event.Event.{Event}
 use Rattle.pgs_history.specs.declared.event.Event.TheVariants.{Collect, Pull, Tell}
 
 abbrev pub pulled_after : Event → ℕ → ℕ → ℕ
-pulled_after (Pull other from to) osd count = if other == osd then max count to else count
+pulled_after (Pull other from to asked) osd count = if other == osd then max count to else count
 pulled_after event osd count = count
 
 -- the number up to which an OSD pulled the log: the greatest that it was given, or 0
 abbrev pub pulled : List Event → ℕ → ℕ
 pulled [] osd = 0
 pulled (event ∷ past) osd = pulled_after event osd (pulled past osd)
+
+abbrev pub raised : ℕ → Option ℕ → ℕ
+raised count None = count
+raised count (Some chunk) = max count chunk
+
+abbrev pub asked_after : Event → ℕ → ℕ → ℕ
+asked_after (Pull other from to chunk) osd count = if other == osd then raised count chunk else count
+asked_after event osd count = count
+
+-- the number of the newest chunk that an OSD was asked for, or 0
+abbrev pub asked : List Event → ℕ → ℕ
+asked [] osd = 0
+asked (event ∷ past) osd = asked_after event osd (asked past osd)
 
 abbrev pub told_after : Event → ℕ → ℕ → ℕ
 told_after (Tell other applied) osd count = if other == osd then max count applied else count

@@ -1,5 +1,5 @@
 -- The scrubs of a group and their chunks, by its events, the newest first.
-use Rattle.std.specs.Prelude.{ℕ, ◌+◌, ◌==◌, ◌&&◌, ◌||◌, Bool, false, true, List, [], ◌∷◌, Option, Some, None, if◌then◌else◌}
+use Rattle.std.specs.Prelude.{ℕ, ◌+◌, ◌-◌, ◌==◌, ◌&&◌, ◌||◌, Bool, false, true, List, [], ◌∷◌, ◌++◌, Option, Some, None, if◌then◌else◌, slice_get}
 use Rattle.pgs_range.specs.declared.bound.Bound.{Bound}
 use Rattle.pgs_range.specs.declared.bound.Bound.TheVariants.{Min}
 use Rattle.pgs_range.specs.declared.family_range.FamilyRange.{FamilyRange}
@@ -12,8 +12,11 @@ use Rattle.pgs_history.specs.declared.chunk.Chunk.{Chunk}
 use Rattle.pgs_history.specs.declared.open_answer.OpenAnswer.TheVariants.{Opened}
 use Rattle.pgs_history.specs.declared.take_answer.TakeAnswer.TheVariants.{Taken}
 use Rattle.pgs_history.specs.declared.close_answer.CloseAnswer.TheVariants.{Closed}
+use Rattle.pgs_history.specs.declared.write_answer.WriteAnswer.TheVariants.{Accepted}
+use Rattle.pgs_history.specs.declared.fate.Fate.{Fate}
+use Rattle.pgs_history.specs.declared.fate.Fate.TheVariants as fates_are
 use Rattle.pgs_history.specs.declared.event.Event.{Event}
-use Rattle.pgs_history.specs.declared.event.Event.TheVariants.{Begin, Open, Take, Close}
+use Rattle.pgs_history.specs.declared.event.Event.TheVariants.{Submit, Begin, Open, Take, Close}
 use Rattle.pgs_history.specs.declared.made.Made.{Made}
 
 -- ---- scrubs
@@ -66,9 +69,10 @@ opened (event ∷ past) = opened_after event (opened past)
 abbrev pub open_after : Event → Option Chunk → Option Chunk
 open_after (Open serial listed (Opened chunk)) before = Some chunk
 open_after (Close number (Closed report completes)) before = None
+open_after (Submit write (Accepted version (Some chunk))) before = None
 open_after event before = before
 
--- the chunk that is open: from when it was opened until it is closed
+-- the chunk that is open: from when it was opened until it is closed, or gives way to a write
 abbrev pub open_chunk : List Event → Option Chunk
 open_chunk [] = None
 open_chunk (event ∷ past) = open_after event (open_chunk past)
@@ -99,9 +103,15 @@ abbrev pub start : List Event → Bound
 start [] = Min
 start (event ∷ past) = start_after event (open_chunk past) (start past)
 
--- how often the present scrub gave way to a write: for now no write is one that it gives way to
+abbrev pub used_after : Event → ℕ → ℕ
+used_after (Begin kind (Began serial)) count = 0
+used_after (Submit write (Accepted version (Some chunk))) count = count + 1
+used_after event count = count
+
+-- how often the scrub that began last gave way to a write
 abbrev pub used : List Event → ℕ
-used past = 0
+used [] = 0
+used (event ∷ past) = used_after event (used past)
 
 -- how many positions the next chunk may have
 abbrev pub limit_now : Made → List Event → ℕ
@@ -136,14 +146,43 @@ abbrev pub closed_ranges : List Event → ℕ → List FamilyRange
 closed_ranges [] serial = []
 closed_ranges (event ∷ past) serial = closed_after event (open_chunk past) serial (closed_ranges past serial)
 
-abbrev pub closes_after : Event → ℕ → ℕ → ℕ
-closes_after (Close number (Closed report completes)) chunk count = if number == chunk then count + 1 else count
-closes_after event chunk count = count
+abbrev pub ends_after : Event → ℕ → ℕ → ℕ
+ends_after (Close number (Closed report completes)) chunk count = if number == chunk then count + 1 else count
+ends_after (Submit write (Accepted version (Some number))) chunk count = if number == chunk then count + 1 else count
+ends_after event chunk count = count
 
--- how often a chunk was closed
-abbrev pub closes : List Event → ℕ → ℕ
-closes [] chunk = 0
-closes (event ∷ past) chunk = closes_after event chunk (closes past chunk)
+-- how often a chunk was closed or gave way to a write
+abbrev pub ends : List Event → ℕ → ℕ
+ends [] chunk = 0
+ends (event ∷ past) chunk = ends_after event chunk (ends past chunk)
+
+abbrev pub fates_after : Event → List Fate → List Fate
+fates_after (Close number (Closed report completes)) fates = fates ++ fates_are.Closed ∷ []
+fates_after (Submit write (Accepted version (Some number))) fates = fates ++ fates_are.Preempted write.id ∷ []
+fates_after event fates = fates
+
+-- what ended the chunks, in the order of their numbers: each but the one that is open has a fate
+abbrev pub fates : List Event → List Fate
+fates [] = []
+fates (event ∷ past) = fates_after event (fates past)
+
+-- what ended the chunk of a number
+abbrev pub fate : List Event → ℕ → Option Fate
+fate past chunk = slice_get (fates past) (chunk - 1)
+
+abbrev pub or_first : Option Fate → Fate → Option Fate
+or_first None now = Some now
+or_first (Some earlier) now = Some earlier
+
+abbrev pub ended_after : Event → ℕ → Option Fate → Option Fate
+ended_after (Close number (Closed report completes)) chunk before = if number == chunk then or_first before fates_are.Closed else before
+ended_after (Submit write (Accepted version (Some number))) chunk before = if number == chunk then or_first before (fates_are.Preempted write.id) else before
+ended_after event chunk before = before
+
+-- the first event that closed a chunk, or that it gave way to
+abbrev pub ended : List Event → ℕ → Option Fate
+ended [] chunk = None
+ended (event ∷ past) chunk = ended_after event chunk (ended past chunk)
 
 -- a chunk is there and is of this scrub
 abbrev pub is_of : Option Chunk → ℕ → Bool

@@ -1,4 +1,5 @@
 use pgs_compare::Report;
+use pgs_request::ReqId;
 
 /// What a chunk is answered that is to be closed.
 #[derive(Drop)]
@@ -7,6 +8,11 @@ pub enum CloseAnswer {
     NoChunk,
     /// It was closed already.
     ClosedBefore,
+    /// It gave way to a write.
+    Preempted {
+        /// The write's request.
+        request: ReqId,
+    },
     /// An acting OSD's map is missing.
     NotYet {
         /// The first such OSD.

@@ -2,11 +2,12 @@ use crate::begin_answer::BeginAnswer;
 use crate::close_answer::CloseAnswer;
 use crate::open_answer::OpenAnswer;
 use crate::take_answer::TakeAnswer;
+use crate::write_answer::WriteAnswer;
 use pgs_chunk::Kind;
 use pgs_map::ScrubMap;
 use pgs_name::ObjectId;
 use pgs_op::Write;
-use pgs_request::{ReqId, Version, WriteAnswer};
+use pgs_request::{ReqId, Version};
 use sqlite_items::Items;
 
 /// A kept event of a group. Answers that change nothing and are asked for again are no events.
@@ -19,6 +20,13 @@ pub enum Event {
         /// Its answer.
         answer: WriteAnswer,
     },
+    /// A write that waited was taken up, as no chunk was open any more.
+    Admit {
+        /// The write.
+        write: Write,
+        /// Its answer.
+        answer: WriteAnswer,
+    },
     /// A client learned for the first time that its write is acknowledged.
     Collect {
         /// The request.
@@ -26,7 +34,7 @@ pub enum Event {
         /// Its version.
         version: Version,
     },
-    /// A member took the items of the log that it didn't have.
+    /// A member took the items of the log that it didn't have, or learned of the open chunk.
     Pull {
         /// The member.
         osd: u32,
@@ -34,6 +42,8 @@ pub enum Event {
         from: u64,
         /// That of the last item that it then had.
         to: u64,
+        /// The number of the open chunk, where the member learned of it for the first time.
+        asked: Option<u64>,
     },
     /// A member told how far it has applied the log, and that is farther than it had told.
     Tell {

@@ -4,15 +4,21 @@
 mod begin_answer;
 mod chunk;
 mod close_answer;
+mod collect_answer;
 mod event;
+mod fate;
 mod made;
 mod open_answer;
 mod take_answer;
+mod write_answer;
 
 pub use begin_answer::BeginAnswer;
 pub use chunk::Chunk;
 pub use close_answer::CloseAnswer;
+pub use collect_answer::CollectAnswer;
 pub use event::Event;
+pub use fate::Fate;
 pub use made::Made;
 pub use open_answer::OpenAnswer;
 pub use take_answer::TakeAnswer;
+pub use write_answer::WriteAnswer;

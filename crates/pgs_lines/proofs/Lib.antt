@@ -5,5 +5,3 @@ pub mod ContextLaws
 pub mod OpLaws
 pub mod DamageLaws
 pub mod LineLaws
-pub mod Marked
-pub mod Behind

@@ -13,8 +13,8 @@ use Rattle.pgs_lines.specs.Choices.{word_or}
 use Rattle.pgs_lines.specs.Contexts.{context}
 use Rattle.pgs_lines.specs.Objects.{op, snap_of, clone_in, snap, kind_word, kind, space, key, name, named}
 use Rattle.pgs_lines.specs.Damages.{damage}
-use Rattle.pgs_lines.specs.Basics.{write_form, write_of, collect_form, member_form, damage_form, damage_of, basic_said, basic_rows, basic_read}
-use Rattle.pgs_lines.specs.Steps.{sweep_form, step_said, step_rows, basic_step_read, step_read}
+use Rattle.pgs_lines.specs.Basics.{write_form, write_of, collect_form, member_form, scrub_form, damage_form, damage_of, basic_said, scrub_rows, scrub_read, basic_rows, basic_read}
+use Rattle.pgs_lines.specs.Steps.{step_said, step_rows, basic_step_read, step_read}
 use Rattle.pgs_lines.specs.Lines.{osd_form, members_form, group_form, line_said, line_rows, step_line_read, line_read, line_form, line, in_line}
 use Rattle.pgs_lines.specs.declared.kind.Kind.{Kind}
 use Rattle.pgs_lines.specs.declared.kind.Kind.TheVariants.{Shallow, Deep}
@@ -80,13 +80,16 @@ write_laws = field_laws plain_byte number (field number (named (field context op
 collect_laws : FormLaws plain_byte collect_form
 collect_laws = field_laws plain_byte number (field number (last number)) number_word member_laws
 
+scrub_laws : FormLaws plain_byte scrub_form
+scrub_laws = field_laws plain_byte number (last kind) number_word (last_laws plain_byte kind kind_laws)
+
 damage_form_laws : FormLaws plain_byte damage_form
 damage_form_laws = field_laws plain_byte number (field number (named (field snap damage))) number_word
     (field_laws plain_byte number (named (field snap damage)) number_word
     (named_laws (field snap damage) (field_laws plain_byte snap damage snap_laws damage_laws)))
 
 basic_kind : (x : Basic) → IsKind plain_byte basic_read (basic_said x) x
-unfolding basic_read basic_rows
+unfolding basic_read basic_rows scrub_read scrub_rows
 basic_kind (basics.Write client serial o c p) =
     kind_of plain_byte basic_read (codes "write") write_form write_of write_laws (λ ws. refl) refl (client, (serial, (o.space, (o.key, (o.name, (c, p))))))
 basic_kind (basics.Collect group client serial) =
@@ -99,10 +102,38 @@ basic_kind (basics.Tell group osd) =
     kind_of plain_byte basic_read (codes "tell") member_form (λ x. basics.Tell x.0 x.1) member_laws (λ ws. refl) refl (group, osd)
 basic_kind (basics.Damage group osd o s d) =
     kind_of plain_byte basic_read (codes "damage") damage_form damage_of damage_form_laws (λ ws. refl) refl (group, (osd, (o.space, (o.key, (o.name, (s, d))))))
+basic_kind (basics.Begin group k) =
+    kind_of plain_byte basic_read (codes "begin") scrub_form (λ x. basics.Begin x.0 x.1) scrub_laws (λ ws. refl) refl (group, k)
+basic_kind (basics.Open group) = kind_of plain_byte basic_read (codes "open") (last number) (λ x. basics.Open x) settle_laws (λ ws. refl) refl group
+basic_kind (basics.Scan group osd) =
+    kind_of plain_byte basic_read (codes "scan") member_form (λ x. basics.Scan x.0 x.1) member_laws (λ ws. refl) refl (group, osd)
+basic_kind (basics.Take group osd) =
+    kind_of plain_byte basic_read (codes "take") member_form (λ x. basics.Take x.0 x.1) member_laws (λ ws. refl) refl (group, osd)
+basic_kind (basics.Close group) = kind_of plain_byte basic_read (codes "close") (last number) (λ x. basics.Close x) settle_laws (λ ws. refl) refl group
+
+scrub_finds : FindsSpelled basic_said scrub_read
+unfolding scrub_read scrub_rows
+scrub_finds = by_rows_finds basic_said scrub_rows no_row (
+  row_finds plain_byte basic_said (codes "begin") scrub_form (λ x. basics.Begin x.0 x.1) scrub_laws (λ y. refl),
+  (
+    row_finds plain_byte basic_said (codes "open") (last number) (λ x. basics.Open x) settle_laws (λ y. refl),
+    (
+      row_finds plain_byte basic_said (codes "scan") member_form (λ x. basics.Scan x.0 x.1) member_laws (λ y. refl),
+      (
+        row_finds plain_byte basic_said (codes "take") member_form (λ x. basics.Take x.0 x.1) member_laws (λ y. refl),
+        (
+          row_finds plain_byte basic_said (codes "close") (last number) (λ x. basics.Close x) settle_laws (λ y. refl),
+          tt,
+        ),
+      ),
+    ),
+  ),
+)
+    (no_row_finds basic_said)
 
 basic_finds : FindsSpelled basic_said basic_read
 unfolding basic_read basic_rows
-basic_finds = by_rows_finds basic_said basic_rows no_row (
+basic_finds = by_rows_finds basic_said basic_rows scrub_read (
   row_finds plain_byte basic_said (codes "write") write_form write_of write_laws (λ y. refl),
   (
     row_finds plain_byte basic_said (codes "collect") collect_form (λ x. basics.Collect x.0 x.1.0 x.1.1) collect_laws (λ y. refl),
@@ -121,12 +152,9 @@ basic_finds = by_rows_finds basic_said basic_rows no_row (
     ),
   ),
 )
-    (no_row_finds basic_said)
+    scrub_finds
 
 -- ---- steps
-
-sweep_laws : FormLaws plain_byte sweep_form
-sweep_laws = field_laws plain_byte number (last kind) number_word (last_laws plain_byte kind kind_laws)
 
 -- the word of a basic step is that of no other step
 basic_passed_on : (b : Basic) → read_rows step_read (basic_said b).words ≡ option_map (λ x. steps.Basic x) (read_rows basic_read (basic_said b).words)
@@ -137,6 +165,11 @@ basic_passed_on (basics.Pull group osd) = refl
 basic_passed_on (basics.Apply group osd) = refl
 basic_passed_on (basics.Tell group osd) = refl
 basic_passed_on (basics.Damage group osd o s d) = refl
+basic_passed_on (basics.Begin group k) = refl
+basic_passed_on (basics.Open group) = refl
+basic_passed_on (basics.Scan group osd) = refl
+basic_passed_on (basics.Take group osd) = refl
+basic_passed_on (basics.Close group) = refl
 
 basic_step_kind : (b : Basic) → IsKind plain_byte basic_read (basic_said b) b → IsKind plain_byte step_read (basic_said b) (steps.Basic b)
 basic_step_kind b k = record {
@@ -150,7 +183,7 @@ step_kind (steps.Basic b) = basic_step_kind b (basic_kind b)
 step_kind (steps.Settle group) =
     kind_of plain_byte step_read (codes "settle") (last number) (λ x. steps.Settle x) settle_laws (λ ws. refl) refl group
 step_kind (steps.Sweep group k) =
-    kind_of plain_byte step_read (codes "sweep") sweep_form (λ x. steps.Sweep x.0 x.1) sweep_laws (λ ws. refl) refl (group, k)
+    kind_of plain_byte step_read (codes "sweep") scrub_form (λ x. steps.Sweep x.0 x.1) scrub_laws (λ ws. refl) refl (group, k)
 
 basic_step_finds : FindsSpelled step_said basic_step_read
 basic_step_finds word ws x e =
@@ -162,7 +195,7 @@ unfolding step_read step_rows
 step_finds = by_rows_finds step_said step_rows basic_step_read (
   row_finds plain_byte step_said (codes "settle") (last number) (λ x. steps.Settle x) settle_laws (λ y. refl),
   (
-    row_finds plain_byte step_said (codes "sweep") sweep_form (λ x. steps.Sweep x.0 x.1) sweep_laws (λ y. refl),
+    row_finds plain_byte step_said (codes "sweep") scrub_form (λ x. steps.Sweep x.0 x.1) scrub_laws (λ y. refl),
     tt,
   ),
 )
@@ -188,6 +221,11 @@ basic_line_passed_on (basics.Pull group osd) = refl
 basic_line_passed_on (basics.Apply group osd) = refl
 basic_line_passed_on (basics.Tell group osd) = refl
 basic_line_passed_on (basics.Damage group osd o s d) = refl
+basic_line_passed_on (basics.Begin group k) = refl
+basic_line_passed_on (basics.Open group) = refl
+basic_line_passed_on (basics.Scan group osd) = refl
+basic_line_passed_on (basics.Take group osd) = refl
+basic_line_passed_on (basics.Close group) = refl
 
 step_passed_on : (s : Step) → read_rows line_read (step_said s).words ≡ option_map (λ x. lines.Step x) (read_rows step_read (step_said s).words)
 unfolding line_read line_rows
@@ -242,6 +280,11 @@ basic_has_some (basics.Pull group osd) = refl
 basic_has_some (basics.Apply group osd) = refl
 basic_has_some (basics.Tell group osd) = refl
 basic_has_some (basics.Damage group osd o s d) = refl
+basic_has_some (basics.Begin group k) = refl
+basic_has_some (basics.Open group) = refl
+basic_has_some (basics.Scan group osd) = refl
+basic_has_some (basics.Take group osd) = refl
+basic_has_some (basics.Close group) = refl
 
 step_has_some : (s : Step) → has_some (step_said s).words ≡ true
 step_has_some (steps.Basic b) = basic_has_some b

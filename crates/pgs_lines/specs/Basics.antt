@@ -4,10 +4,11 @@ use Rattle.pgs_words.specs.Forms.{Form, Row, Spelling, field, last, said, row, b
 use Rattle.pgs_words.specs.Fields.{number}
 use Rattle.pgs_request.specs.declared.op.Op.{Op}
 use Rattle.pgs_lines.specs.Contexts.{context}
-use Rattle.pgs_lines.specs.Objects.{op, snap, named}
+use Rattle.pgs_lines.specs.Objects.{op, snap, kind, named}
 use Rattle.pgs_lines.specs.Damages.{damage}
 use Rattle.pgs_lines.specs.declared.context.Context.{Context}
 use Rattle.pgs_lines.specs.declared.damage.Damage.{Damage}
+use Rattle.pgs_lines.specs.declared.kind.Kind.{Kind}
 use Rattle.pgs_lines.specs.declared.snap.Snap.{Snap}
 use Rattle.pgs_lines.specs.declared.basic.Basic.{Basic}
 use Rattle.pgs_lines.specs.declared.basic.Basic.TheVariants as basics
@@ -27,6 +28,10 @@ collect_form = field number (field number (last number))
 abbrev pub member_form : Form (ℕ × ℕ)
 member_form = field number (last number)
 
+-- G KIND
+abbrev pub scrub_form : Form (ℕ × Kind)
+scrub_form = field number (last kind)
+
 -- G OSD SPACE KEY NAME SNAP DAMAGE
 abbrev pub damage_form : Form (ℕ × (ℕ × (List ℕ × (List ℕ × (List ℕ × (Snap × Damage))))))
 damage_form = field number (field number (named (field snap damage)))
@@ -41,6 +46,24 @@ basic_said (basics.Pull group osd) = said (codes "pull") member_form (group, osd
 basic_said (basics.Apply group osd) = said (codes "apply") member_form (group, osd)
 basic_said (basics.Tell group osd) = said (codes "tell") member_form (group, osd)
 basic_said (basics.Damage group osd o s d) = said (codes "damage") damage_form (group, (osd, (o.space, (o.key, (o.name, (s, d))))))
+basic_said (basics.Begin group k) = said (codes "begin") scrub_form (group, k)
+basic_said (basics.Open group) = said (codes "open") (last number) group
+basic_said (basics.Scan group osd) = said (codes "scan") member_form (group, osd)
+basic_said (basics.Take group osd) = said (codes "take") member_form (group, osd)
+basic_said (basics.Close group) = said (codes "close") (last number) group
+
+-- the steps of a scrub
+unfoldable pub scrub_rows : List (Row Basic)
+scrub_rows =
+    row (codes "begin") scrub_form (λ x. basics.Begin x.0 x.1)
+    ∷ row (codes "open") (last number) (λ x. basics.Open x)
+    ∷ row (codes "scan") member_form (λ x. basics.Scan x.0 x.1)
+    ∷ row (codes "take") member_form (λ x. basics.Take x.0 x.1)
+    ∷ row (codes "close") (last number) (λ x. basics.Close x)
+    ∷ []
+
+unfoldable pub scrub_read : List ℕ → List (List ℕ) → Option Basic
+scrub_read word words = by_rows scrub_rows no_row word words
 
 unfoldable pub basic_rows : List (Row Basic)
 basic_rows =
@@ -53,7 +76,7 @@ basic_rows =
     ∷ []
 
 unfoldable pub basic_read : List ℕ → List (List ℕ) → Option Basic
-basic_read word words = by_rows basic_rows no_row word words
+basic_read word words = by_rows basic_rows scrub_read word words
 
 -- what follows the word of a kind, read
 abbrev pub write_read : List (List ℕ) → Option Basic
@@ -64,3 +87,6 @@ collect_read words = option_map (λ x. basics.Collect x.0 x.1.0 x.1.1) (collect_
 
 abbrev pub damage_read : List (List ℕ) → Option Basic
 damage_read words = option_map damage_of (damage_form.read words)
+
+abbrev pub begin_read : List (List ℕ) → Option Basic
+begin_read words = option_map (λ x. basics.Begin x.0 x.1) (scrub_form.read words)

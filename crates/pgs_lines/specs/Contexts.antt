@@ -1,6 +1,5 @@
--- How a context of snapshots is spelled, what it means, and how it is printed.
-use Rattle.std.specs.Prelude.{ℕ, ◌==◌, ◌&&◌, if◌then◌else◌, List, [], ◌∷◌, ◌++◌, length, Option, Some, None}
-use Rattle.std.specs.Fmt.{decimal}
+-- How a context of snapshots is spelled, and what it means.
+use Rattle.std.specs.Prelude.{ℕ, List, [], Option, Some, None}
 use Rattle.pgs_words.specs.Forms.{Field, Form, field, each, has_some, such_form, parts, seen, seen_field}
 use Rattle.pgs_words.specs.Fields.{number, dash}
 use Rattle.pgs_request.specs.declared.snap_context.SnapContext.{SnapContext}
@@ -39,17 +38,8 @@ given_in (Given context) = Some context
 abbrev pub context : Field Context
 context = seen_field context_of given_in (word_or dash given)
 
--- ---- what a word means, and the word that is printed
+-- ---- what a word means
 
 abbrev pub meant : Context → SnapContext
 meant Dash = record { seq = 0; snaps = [] }
 meant (Given context) = context
-
--- a dash, and no 0, stands for no snapshot
-abbrev pub as_printed : SnapContext → Context
-as_printed context = if context.seq == 0 && length context.snaps == 0 then Dash else Given context
-
--- snaps as they are appended, with a mark before the first and a comma before each other
-abbrev pub marked : ℕ → List ℕ → List ℕ
-marked mark [] = []
-marked mark (s ∷ ss) = mark ∷ decimal s ++ marked 44 ss

@@ -1,4 +1,4 @@
--- How the lines of a script are spelled, and how what was done is printed.
+-- How the lines of a script are spelled.
 pub mod Payload
 pub mod Choices
 pub mod Contexts
@@ -7,6 +7,3 @@ pub mod Damages
 pub mod Basics
 pub mod Steps
 pub mod Lines
-pub mod Ranges
-pub mod Scrubs
-pub mod Done

@@ -1,26 +1,20 @@
 -- How the lines are spelled that do something.
 use Rattle.std.specs.Prelude.{ℕ, List, [], ◌∷◌, Option, option_map, codes}
-use Rattle.pgs_words.specs.Forms.{Form, Row, Spelling, field, last, said, row, by_rows}
+use Rattle.pgs_words.specs.Forms.{Row, Spelling, last, said, row, by_rows}
 use Rattle.pgs_words.specs.Fields.{number}
-use Rattle.pgs_lines.specs.Objects.{kind}
-use Rattle.pgs_lines.specs.Basics.{basic_said, basic_read}
-use Rattle.pgs_lines.specs.declared.kind.Kind.{Kind}
+use Rattle.pgs_lines.specs.Basics.{scrub_form, basic_said, basic_read}
 use Rattle.pgs_lines.specs.declared.step.Step.{Step}
 use Rattle.pgs_lines.specs.declared.step.Step.TheVariants as steps
-
--- G KIND
-abbrev pub sweep_form : Form (ℕ × Kind)
-sweep_form = field number (last kind)
 
 abbrev pub step_said : Step → Spelling
 step_said (steps.Basic basic) = basic_said basic
 step_said (steps.Settle group) = said (codes "settle") (last number) group
-step_said (steps.Sweep group k) = said (codes "sweep") sweep_form (group, k)
+step_said (steps.Sweep group k) = said (codes "sweep") scrub_form (group, k)
 
 unfoldable pub step_rows : List (Row Step)
 step_rows =
     row (codes "settle") (last number) (λ x. steps.Settle x)
-    ∷ row (codes "sweep") sweep_form (λ x. steps.Sweep x.0 x.1)
+    ∷ row (codes "sweep") scrub_form (λ x. steps.Sweep x.0 x.1)
     ∷ []
 
 abbrev pub basic_step_read : List ℕ → List (List ℕ) → Option Step
@@ -34,4 +28,4 @@ abbrev pub settle_read : List (List ℕ) → Option Step
 settle_read words = option_map (λ x. steps.Settle x) ((last number).read words)
 
 abbrev pub sweep_read : List (List ℕ) → Option Step
-sweep_read words = option_map (λ x. steps.Sweep x.0 x.1) (sweep_form.read words)
+sweep_read words = option_map (λ x. steps.Sweep x.0 x.1) (scrub_form.read words)

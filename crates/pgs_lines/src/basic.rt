@@ -1,5 +1,6 @@
 use crate::context::Context;
 use crate::damage::Damage;
+use crate::kind::Kind;
 use crate::object::Object;
 use crate::snap::Snap;
 use pgs_request::Op;
@@ -62,5 +63,36 @@ pub enum Basic {
         snap: Snap,
         /// The change.
         damage: Damage,
+    },
+    /// A scrub of a group begins.
+    Begin {
+        /// The group.
+        group: u32,
+        /// What the scrub looks at.
+        kind: Kind,
+    },
+    /// The next chunk of a group's scrub is opened.
+    Open {
+        /// The group.
+        group: u32,
+    },
+    /// An OSD takes one step of its scan of the chunk.
+    Scan {
+        /// The group.
+        group: u32,
+        /// The OSD.
+        osd: u32,
+    },
+    /// The group takes the map that an OSD made of the chunk.
+    Take {
+        /// The group.
+        group: u32,
+        /// The OSD.
+        osd: u32,
+    },
+    /// The last chunk of a group's scrub is closed.
+    Close {
+        /// The group.
+        group: u32,
     },
 }

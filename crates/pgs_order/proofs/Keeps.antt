@@ -38,6 +38,11 @@ basic_named_more gs more (basics.Pull group osd) e = any_more (is_in group osd) 
 basic_named_more gs more (basics.Apply group osd) e = any_more (is_in group osd) gs more e
 basic_named_more gs more (basics.Tell group osd) e = any_more (is_in group osd) gs more e
 basic_named_more gs more (basics.Damage group osd object snap damage) e = any_more (is_in group osd) gs more e
+basic_named_more gs more (basics.Begin group kind) e = any_more (λ g. g.group == group) gs more e
+basic_named_more gs more (basics.Open group) e = any_more (λ g. g.group == group) gs more e
+basic_named_more gs more (basics.Scan group osd) e = any_more (is_in group osd) gs more e
+basic_named_more gs more (basics.Take group osd) e = any_more (is_in group osd) gs more e
+basic_named_more gs more (basics.Close group) e = any_more (λ g. g.group == group) gs more e
 
 named_more : (gs more : List Group) (s : Step) → step_is_named gs s ≡ true → step_is_named (gs ++ more) s ≡ true
 named_more gs more (steps.Basic b) e = basic_named_more gs more b e

@@ -19,6 +19,11 @@ basic_stays (basics.Pull group osd) = refl
 basic_stays (basics.Apply group osd) = refl
 basic_stays (basics.Tell group osd) = refl
 basic_stays (basics.Damage group osd object snap damage) = refl
+basic_stays (basics.Begin group kind) = refl
+basic_stays (basics.Open group) = refl
+basic_stays (basics.Scan group osd) = refl
+basic_stays (basics.Take group osd) = refl
+basic_stays (basics.Close group) = refl
 
 step_stays : (s : Step) → passed (join_with_byte 32 (step_said s).words) ≡ false
 step_stays (steps.Basic basic) = basic_stays basic

@@ -101,6 +101,11 @@ basic_is_named groups (basics.Pull group osd) = is_member groups group osd
 basic_is_named groups (basics.Apply group osd) = is_member groups group osd
 basic_is_named groups (basics.Tell group osd) = is_member groups group osd
 basic_is_named groups (basics.Damage group osd object snap damage) = is_member groups group osd
+basic_is_named groups (basics.Begin group kind) = has_group groups group
+basic_is_named groups (basics.Open group) = has_group groups group
+basic_is_named groups (basics.Scan group osd) = is_member groups group osd
+basic_is_named groups (basics.Take group osd) = is_member groups group osd
+basic_is_named groups (basics.Close group) = has_group groups group
 
 abbrev pub step_is_named : List Group → Step → Bool
 step_is_named groups (steps.Basic basic) = basic_is_named groups basic

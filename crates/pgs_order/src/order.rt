@@ -63,6 +63,11 @@ fn basic_is_named(groups: &[Group], basic: &Basic) -> bool
         Basic::Apply { group, osd } => is_member(groups, *group, *osd),
         Basic::Tell { group, osd } => is_member(groups, *group, *osd),
         Basic::Damage { group, osd, .. } => is_member(groups, *group, *osd),
+        Basic::Begin { group, .. } => has_group(groups, *group),
+        Basic::Open { group } => has_group(groups, *group),
+        Basic::Scan { group, osd } => is_member(groups, *group, *osd),
+        Basic::Take { group, osd } => is_member(groups, *group, *osd),
+        Basic::Close { group } => has_group(groups, *group),
     }
 }
 

@@ -1,5 +1,5 @@
 -- What applying the next item answers follows from what was fed and applied.
-use Rattle.std.proofs.Common.{◌≡◌, ℕ, ◌+◌, ◌<◌, ◌≤◌, nat_lt, true, false, cond, List, ◌∷◌, length, Option, Ok, refl, sym, ap, ◌∙◌, arith}
+use Rattle.std.proofs.Common.{◌≡◌, ℕ, ◌+◌, ◌≤◌, true, false, cond, List, ◌∷◌, length, Option, Ok, sym, ap, ◌∙◌, arith}
 use Rattle.std.proofs.lemmas.Bool.Decides.{nat_tests}
 use Rattle.pgs_medium.specs.Device.{Device}
 use Rattle.pgs_shard_history.specs.Feeds.{fed, item_of}
@@ -10,7 +10,6 @@ use Rattle.pgs_shard_history.specs.declared.event.Event.TheVariants as events
 use Rattle.pgs_shard.specs.Answers.{IsApplied, past_after_apply}
 use Rattle.pgs_shard.specs.declared.applied.Applied.{Applied}
 use Rattle.pgs_shard.specs.declared.applied.Applied.TheVariants as answers
-use Rattle.pgs_shard.specs.declared.apply_error.ApplyError.{ApplyError}
 use Rattle.pgs_shards.specs.Members.{waits, next_number, next_drops, applied_next, apply_answer}
 
 waits_not : (past : List Event) → applied past ≡ length (fed past) → waits past ≡ false

@@ -1,5 +1,5 @@
 -- The shard of an OSD in a list of shards.
-use Rattle.std.proofs.Common.{◌≡◌, ℕ, zero, suc, ◌+◌, ◌<◌, ◌≤◌, ◌==◌, nat_lt, Bool, true, false, cond, not, List, [], ◌∷◌, ◌++◌, length, drop, map, Some, None, get_or, set, refl, sym, ap, ◌∙◌, subst, arith}
+use Rattle.std.proofs.Common.{◌≡◌, ℕ, zero, suc, ◌+◌, ◌<◌, ◌≤◌, ◌==◌, nat_lt, Bool, true, false, cond, not, List, [], ◌∷◌, ◌++◌, length, drop, map, Option, Some, None, get_or, set, refl, sym, ap, ◌∙◌, subst, arith}
 use Rattle.std.specs.Prelude.{position}
 use Rattle.std.specs.List.{position_or_len}
 use Rattle.std.proofs.lemmas.Bool.Decides.{nat_tests}
@@ -7,17 +7,13 @@ use Rattle.pgs_bytes.proofs.Facts.{none_some, some_none, some_same}
 use Rattle.pgs_medium.specs.declared.ram_medium.RamMedium.{RamMedium}
 use Rattle.pgs_name.specs.declared.object_id.ObjectId.{ObjectId}
 use Rattle.pgs_range.specs.declared.bound.Bound.{Bound}
-use Rattle.pgs_range.specs.declared.family_range.FamilyRange.{FamilyRange}
 use Rattle.pgs_chunk.specs.Listings.{listing}
-use Rattle.pgs_map.specs.declared.entry.Entry.{Entry}
 use Rattle.pgs_medium.specs.Calls.{is_named}
 use Rattle.pgs_medium.specs.declared.call_kind.CallKind.TheVariants.{List as Listing}
 use Rattle.pgs_shard_history.specs.Positions.{positions}
-use Rattle.pgs_shards.specs.Entries.{entries_in}
 use Rattle.pgs_shard.specs.State.{ShardState}
 use Rattle.pgs_shard_history.specs.declared.event.Event.{Event}
 use Rattle.pgs_shard_history.specs.Feeds.{fed}
-use Rattle.pgs_shard_history.specs.Stores.{applied}
 use Rattle.pgs_shard.specs.declared.applied.Applied.{Applied as ApplyAnswer}
 use Rattle.pgs_shard.specs.declared.applied.Applied.TheVariants.{NotYet}
 use Rattle.pgs_shard_history.specs.declared.event.Event.TheVariants as events
@@ -27,8 +23,14 @@ use Rattle.pgs_shard_history.specs.Held.{damage_answer}
 use Rattle.pgs_shard_history.specs.declared.damage_answer.DamageAnswer.{DamageAnswer}
 use Rattle.pgs_shard_history.specs.declared.damage_answer.DamageAnswer.TheVariants.{Damaged}
 use Rattle.std.proofs.lemmas.List.{drop_more}
-use Rattle.pgs_shards.specs.Members.{Member, beginning, past_in, with_event, with_past, waits, applied_next, with_applied, apply_answer, damage_in, with_damage}
-use Rattle.pgs_shards.specs.Kept.{seen, IsQuiet, AreQuiet, is_of}
+use Rattle.pgs_shard_history.specs.Scanning.{scanning}
+use Rattle.pgs_shard.specs.Scans.{handed_in, past_after_hand}
+use Rattle.pgs_shard.specs.declared.deposit.Deposit.{Deposit}
+use Rattle.pgs_shard.specs.declared.scan_answer.ScanAnswer.{ScanAnswer}
+use Rattle.pgs_shard.specs.declared.scan_answer.ScanAnswer.TheVariants.{Idle}
+use Rattle.pgs_shards.specs.Scans.{scan_answer, after_answer, scan_in, with_scanned, hand_in, with_handed}
+use Rattle.pgs_shards.specs.Members.{Member, ShardsState, beginning, past_in, with_event, with_past, waits, applied_next, with_applied, apply_answer, damage_in, with_damage}
+use Rattle.pgs_shards.specs.Kept.{seen, shards_seen, IsQuiet, AreQuiet, is_of}
 
 abbrev Shard : Type 0
 Shard = ShardState RamMedium
@@ -97,15 +99,30 @@ set_is osd (shard ∷ shards) (suc at) new d p h same =
     ap (λ rest. seen shard ∷ rest) (set_is osd shards at new d more.1 (let size : suc at < suc (length shards) = h in omega (arith, size)) same)
     ∙ sym (ap (λ v. cond v (record { osd = shard.osd; past = new.past } ∷ map seen shards) (seen shard ∷ with_past osd new.past (map seen shards))) (not_true (shard.osd == osd) more.0))
 
-pub quiet_set : (shards : List Shard) (at : ℕ) (new : Shard) → AreQuiet shards → IsQuiet new → AreQuiet (set shards at new)
-quiet_set [] at new all one = tt
-quiet_set (shard ∷ shards) zero new all one = (one, all.1)
-quiet_set (shard ∷ shards) (suc at) new all one = (all.0, quiet_set shards at new all.1 one)
+osd_is : (osd : ℕ) (shards : List Shard) (at : ℕ) (d : Shard) → position_or_len (is_of osd) shards ≡ at → at < length shards → (get_or shards at d).osd ≡ osd
+osd_is osd [] at d p h = absurd (omega (arith, h))
+osd_is osd (shard ∷ shards) zero d p h = same_number shard.osd osd (not_false (shard.osd == osd) (none_on (not (shard.osd == osd)) (position_or_len (is_of osd) shards) p))
+  where
+    same_number : (m n : ℕ) → (m == n) ≡ true → m ≡ n
+    same_number m n e = grind (arith, nat_tests)
+osd_is osd (shard ∷ shards) (suc at) d p h =
+    let more = one_on (not (shard.osd == osd)) (position_or_len (is_of osd) shards) at p in
+    osd_is osd shards at d more.1 (let size : suc at < suc (length shards) = h in omega (arith, size))
 
-pub quiet_at : (shards : List Shard) (at : ℕ) (d : Shard) → at < length shards → AreQuiet shards → IsQuiet (get_or shards at d)
-quiet_at [] at d h all = absurd (omega (arith, h))
-quiet_at (shard ∷ shards) zero d h all = all.0
-quiet_at (shard ∷ shards) (suc at) d h all = quiet_at shards at d (let size : suc at < suc (length shards) = h in omega (arith, size)) all.1
+quiet_with : (stride : ℕ) (shards : List Shard) (at : ℕ) (new d : Shard) → AreQuiet stride shards → IsQuiet new → new.stride ≡ (get_or shards at d).stride → AreQuiet stride (set shards at new)
+quiet_with stride [] at new d all one same = tt
+quiet_with stride (shard ∷ shards) zero new d all one same = ((one, same ∙ all.0.1), all.1)
+quiet_with stride (shard ∷ shards) (suc at) new d all one same = (all.0, quiet_with stride shards at new d all.1 one same)
+
+pub quiet_set : (stride : ℕ) (shards : List Shard) (at : ℕ) (shard new : Shard) → AreQuiet stride shards → shard ≡ get_or shards at shard → IsQuiet new → new.stride ≡ shard.stride
+    → AreQuiet stride (set shards at new)
+quiet_set stride shards at shard new all is one same = quiet_with stride shards at new shard all one (same ∙ ap (λ s. s.stride) is)
+
+pub quiet_at : (stride : ℕ) (shards : List Shard) (at : ℕ) (d : Shard) → at < length shards → AreQuiet stride shards
+    → IsQuiet (get_or shards at d) × ((get_or shards at d).stride ≡ stride)
+quiet_at stride [] at d h all = absurd (omega (arith, h))
+quiet_at stride (shard ∷ shards) zero d h all = all.0
+quiet_at stride (shard ∷ shards) (suc at) d h all = quiet_at stride shards at d (let size : suc at < suc (length shards) = h in omega (arith, size)) all.1
 
 -- ---- histories that a shard took
 
@@ -235,9 +252,9 @@ applied_set osd shards at new d e same past =
 
 -- ---- a shard more
 
-pub quiet_more : (shards : List Shard) (new : Shard) → AreQuiet shards → IsQuiet new → AreQuiet (shards ++ new ∷ [])
-quiet_more [] new all one = (one, tt)
-quiet_more (shard ∷ shards) new all one = (all.0, quiet_more shards new all.1 one)
+pub quiet_more : (stride : ℕ) (shards : List Shard) (new : Shard) → AreQuiet stride shards → IsQuiet new → new.stride ≡ stride → AreQuiet stride (shards ++ new ∷ [])
+quiet_more stride [] new all one same = ((one, same), tt)
+quiet_more stride (shard ∷ shards) new all one same = (all.0, quiet_more stride shards new all.1 one same)
 
 pub begun_more : (shards : List Shard) (new : Shard) (osds : List ℕ) (i : ℕ) (osd : ℕ) → i < length osds → osd ≡ get_or osds i osd → new.osd ≡ osd → new.past ≡ []
     → map seen (shards ++ new ∷ []) ++ beginning (drop (i + 1) osds) ≡ map seen shards ++ beginning (drop i osds)
@@ -248,76 +265,152 @@ begun_more (shard ∷ shards) new osds i osd within is o p = ap (λ rest. seen s
 
 -- ---- the same of what is seen
 
-module _ (osd : ℕ) (shards : List Shard) (now : List Member) (view : map seen shards ≡ now) where
+-- a history that a shard took
+past_set : (osd : ℕ) (shards : List Shard) (at : ℕ) (new d : Shard) → position (is_of osd) shards ≡ Some at → new.osd ≡ (get_or shards at d).osd
+    → map seen (set shards at new) ≡ with_past osd new.past (map seen shards)
+past_set osd shards at new d e same = let is = is_at osd shards at e in set_is osd shards at new d is.0 is.1 same
+
+module _ (osd stride : ℕ) (shards : List Shard) (now : ShardsState) (view : shards_seen stride shards ≡ now) where
+  members_now : map seen shards ≡ now.all
+  unfolding shards_seen
+  members_now = ap (λ (s : ShardsState). s.all) view
+
   module _ (none : position (is_of osd) shards ≡ None) where
-    pub answer_none : NotYet 0 ≡ apply_answer (past_in now osd)
-    answer_none = sym (ap (λ members. apply_answer (past_in members osd)) (sym view) ∙ ap apply_answer (past_nowhere osd shards none))
+    past_none : past_in now.all osd ≡ []
+    past_none = ap (λ members. past_in members osd) (sym members_now) ∙ past_nowhere osd shards none
 
-    pub applied_none : now ≡ with_applied osd now
-    applied_none =
-        sym (ap (λ past. cond (waits past) (with_event osd (applied_next past) now) now) (ap (λ members. past_in members osd) (sym view) ∙ past_nowhere osd shards none))
+    pub answer_none : NotYet 0 ≡ apply_answer (past_in now.all osd)
+    answer_none = sym (ap apply_answer past_none)
 
-    pub listed_none : (limit : ℕ) (start : Bound) → [] ≡ listing limit start (positions (past_in now osd))
-    listed_none limit start = sym (ap (λ members. listing limit start (positions (past_in members osd))) (sym view) ∙ ap (λ past. listing limit start (positions past)) (past_nowhere osd shards none))
+    pub applied_none : now ≡ record now { all = with_applied osd now.all }
+    applied_none = sym (ap (λ past. record now { all = cond (waits past) (with_event osd (applied_next past) now.all) now.all }) past_none)
 
-    pub entries_none : (deep : Bool) (range : FamilyRange) → [] ≡ entries_in deep range (past_in now osd)
-    entries_none deep range = sym (ap (λ members. entries_in deep range (past_in members osd)) (sym view) ∙ ap (entries_in deep range) (past_nowhere osd shards none))
+    pub listed_none : (limit : ℕ) (start : Bound) → [] ≡ listing limit start (positions (past_in now.all osd))
+    listed_none limit start = sym (ap (λ past. listing limit start (positions past)) past_none)
 
-    pub damage_none : (family : Family) (snap : ℕ) (damage : Damage) → Damaged ≡ damage_in now osd family snap damage
+    pub damage_none : (family : Family) (snap : ℕ) (damage : Damage) → Damaged ≡ damage_in now.all osd family snap damage
     damage_none family snap damage =
-        sym (ap (λ members. damage_in members osd family snap damage) (sym view)
+        sym (ap (λ members. damage_in members osd family snap damage) (sym members_now)
         ∙ no_damage osd family snap damage shards (not_found (position_or_len (is_of osd) shards) (length shards) none))
 
-    pub event_none : (event : Event) → now ≡ with_event osd event now
-    event_none event = sym view ∙ sym (kept_nowhere osd event shards none) ∙ ap (with_event osd event) view
+    pub event_none : (event : Event) → now ≡ record now { all = with_event osd event now.all }
+    event_none event =
+        ap (λ all. record now { all = all }) (sym members_now ∙ sym (kept_nowhere osd event shards none) ∙ ap (with_event osd event) members_now)
+
+    no_past : with_past osd [] now.all ≡ now.all
+    no_past = ap (λ past. with_past osd past now.all) (sym past_none) ∙ same_past osd now.all
+
+    pub idle_none : Idle ≡ scan_in now.stride now.all osd
+    idle_none = sym (ap (scan_answer now.stride) past_none)
+
+    pub scanned_none : now ≡ record now { all = with_scanned now.stride osd now.all }
+    scanned_none =
+        ap (λ all. record now { all = all })
+        (sym (ap (λ past. with_past osd (after_answer (scan_answer now.stride past) past) now.all) past_none ∙ no_past))
+
+    pub hand_none : None ≡ hand_in now.all osd
+    hand_none = sym (ap (λ past. handed_in osd (scanning past)) past_none)
+
+    pub handed_none : now ≡ record now { all = with_handed osd now.all }
+    handed_none =
+        ap (λ all. record now { all = all })
+        (sym (ap (λ past. with_past osd (past_after_hand (handed_in osd (scanning past)) past) now.all) past_none ∙ no_past))
 
   module _ (at : ℕ) (there : position (is_of osd) shards ≡ Some at) (shard : Shard) (is : shard ≡ get_or shards at shard) where
-    past_now : past_in now osd ≡ shard.past
-    past_now = ap (λ members. past_in members osd) (sym view) ∙ past_at osd shards at shard there ∙ sym (ap (λ s. s.past) is)
+    past_now : past_in now.all osd ≡ shard.past
+    past_now = ap (λ members. past_in members osd) (sym members_now) ∙ past_at osd shards at shard there ∙ sym (ap (λ s. s.past) is)
 
-    pub answer_some : (answer : ApplyAnswer) → answer ≡ apply_answer shard.past → answer ≡ apply_answer (past_in now osd)
+    pub answer_some : (answer : ApplyAnswer) → answer ≡ apply_answer shard.past → answer ≡ apply_answer (past_in now.all osd)
     answer_some answer e = e ∙ ap apply_answer (sym past_now)
 
-    pub listed_some : (limit : ℕ) (start : Bound) (ids : List ObjectId) → ids ≡ listing limit start (positions shard.past) → ids ≡ listing limit start (positions (past_in now osd))
+    pub listed_some : (limit : ℕ) (start : Bound) (ids : List ObjectId) → ids ≡ listing limit start (positions shard.past)
+        → ids ≡ listing limit start (positions (past_in now.all osd))
     listed_some limit start ids e = e ∙ ap (λ past. listing limit start (positions past)) (sym past_now)
 
-    pub entries_some : (deep : Bool) (range : FamilyRange) (entries : List Entry) → entries ≡ entries_in deep range shard.past
-        → entries ≡ entries_in deep range (past_in now osd)
-    entries_some deep range entries e = e ∙ ap (entries_in deep range) (sym past_now)
-
-    damage_now : (family : Family) (snap : ℕ) (damage : Damage) → damage_in now osd family snap damage ≡ damage_answer shard.past family snap damage
+    damage_now : (family : Family) (snap : ℕ) (damage : Damage) → damage_in now.all osd family snap damage ≡ damage_answer shard.past family snap damage
     damage_now family snap damage =
         let at_is = is_at osd shards at there in
-        ap (λ members. damage_in members osd family snap damage) (sym view) ∙ damage_is osd family snap damage shards at shard at_is.0 at_is.1
+        ap (λ members. damage_in members osd family snap damage) (sym members_now) ∙ damage_is osd family snap damage shards at shard at_is.0 at_is.1
         ∙ sym (ap (λ (s : Shard). damage_answer s.past family snap damage) is)
 
     pub damage_some : (family : Family) (snap : ℕ) (damage : Damage) (answer : DamageAnswer) → answer ≡ damage_answer shard.past family snap damage
-        → answer ≡ damage_in now osd family snap damage
+        → answer ≡ damage_in now.all osd family snap damage
     damage_some family snap damage answer e = e ∙ sym (damage_now family snap damage)
 
-    pub from_some : (from : ℕ) → from ≤ length (fed (past_in now osd)) → from ≤ length (fed shard.past)
+    pub from_some : (from : ℕ) → from ≤ length (fed (past_in now.all osd)) → from ≤ length (fed shard.past)
     from_some from within = subst (λ past. from ≤ length (fed past)) past_now within
 
-    module _ (new : Shard) (same : new.osd ≡ shard.osd) where
-      pub same_some : new.past ≡ shard.past → map seen (set shards at new) ≡ now
-      same_some past = same_set osd shards at new shard there (same ∙ ap (λ s. s.osd) is) (past ∙ ap (λ s. s.past) is) ∙ view
+    osd_now : shard.osd ≡ osd
+    osd_now = let at_is = is_at osd shards at there in ap (λ (s : Shard). s.osd) is ∙ osd_is osd shards at shard at_is.0 at_is.1
 
-      pub event_some : (event : Event) → new.past ≡ event ∷ shard.past → map seen (set shards at new) ≡ with_event osd event now
-      event_some event past = event_set osd event shards at new shard there (same ∙ ap (λ s. s.osd) is) (past ∙ ap (λ s. event ∷ s.past) is) ∙ ap (with_event osd event) view
+    stride_now : AreQuiet stride shards → shard.stride ≡ now.stride
+    unfolding shards_seen
+    stride_now quiet =
+        ap (λ (s : Shard). s.stride) is ∙ (quiet_at stride shards at shard (is_at osd shards at there).1 quiet).1 ∙ ap (λ (s : ShardsState). s.stride) view
+
+    scan_now : AreQuiet stride shards → scan_answer shard.stride shard.past ≡ scan_in now.stride now.all osd
+    scan_now quiet = λ i. scan_answer (stride_now quiet i) (sym past_now i)
+
+    pub scan_some : AreQuiet stride shards → (answer : ScanAnswer) → answer ≡ scan_answer shard.stride shard.past → answer ≡ scan_in now.stride now.all osd
+    scan_some quiet answer e = e ∙ scan_now quiet
+
+    hand_now : handed_in shard.osd (scanning shard.past) ≡ hand_in now.all osd
+    hand_now = λ i. handed_in (osd_now i) (scanning (sym past_now i))
+
+    pub hand_some : (deposit : Option Deposit) → deposit ≡ handed_in shard.osd (scanning shard.past) → deposit ≡ hand_in now.all osd
+    hand_some deposit e = e ∙ hand_now
+
+    module _ (new : Shard) (same : new.osd ≡ shard.osd) where
+      -- what is seen with other members
+      with_members : (all : List Member) → map seen (set shards at new) ≡ all → shards_seen stride (set shards at new) ≡ record now { all = all }
+      unfolding shards_seen
+      with_members all e = λ i. record { stride = (view i).stride; all = e i }
+
+      pub same_some : new.past ≡ shard.past → shards_seen stride (set shards at new) ≡ now
+      same_some past = with_members now.all (same_set osd shards at new shard there (same ∙ ap (λ s. s.osd) is) (past ∙ ap (λ s. s.past) is) ∙ members_now)
+
+      event_now : (event : Event) → new.past ≡ event ∷ shard.past → map seen (set shards at new) ≡ with_event osd event now.all
+      event_now event past =
+          event_set osd event shards at new shard there (same ∙ ap (λ s. s.osd) is) (past ∙ ap (λ s. event ∷ s.past) is) ∙ ap (with_event osd event) members_now
+
+      pub event_some : (event : Event) → new.past ≡ event ∷ shard.past → shards_seen stride (set shards at new) ≡ record now { all = with_event osd event now.all }
+      event_some event past = with_members (with_event osd event now.all) (event_now event past)
 
       pub harmed_some : (family : Family) (snap : ℕ) (damage : Damage) → new.past ≡ events.Damaged family snap damage (damage_answer shard.past family snap damage) ∷ shard.past
-          → map seen (set shards at new) ≡ with_damage osd family snap damage now
+          → shards_seen stride (set shards at new) ≡ record now { all = with_damage osd family snap damage now.all }
       harmed_some family snap damage past =
-          event_some (events.Damaged family snap damage (damage_in now osd family snap damage))
+          event_some (events.Damaged family snap damage (damage_in now.all osd family snap damage))
           (past ∙ ap (λ a. events.Damaged family snap damage a ∷ shard.past) (sym (damage_now family snap damage)))
 
-      pub applied_some : new.past ≡ cond (waits shard.past) (applied_next shard.past ∷ shard.past) shard.past → map seen (set shards at new) ≡ with_applied osd now
+      pub applied_some : new.past ≡ cond (waits shard.past) (applied_next shard.past ∷ shard.past) shard.past
+          → shards_seen stride (set shards at new) ≡ record now { all = with_applied osd now.all }
       applied_some past =
-          applied_set osd shards at new shard there (same ∙ ap (λ s. s.osd) is)
+          with_members (with_applied osd now.all)
+          (applied_set osd shards at new shard there (same ∙ ap (λ s. s.osd) is)
           (past ∙ ap (λ s. cond (waits s.past) (applied_next s.past ∷ s.past) s.past) is)
-          ∙ ap (with_applied osd) view
+          ∙ ap (with_applied osd) members_now)
 
-pub ruleset places = (answer_none, applied_none, event_none, listed_none, entries_none, damage_none, answer_some, listed_some, entries_some, damage_some, harmed_some, from_some, same_some, event_some, applied_some)
+      -- with another history of the OSD
+      past_some : (past : List Event) → new.past ≡ past → shards_seen stride (set shards at new) ≡ record now { all = with_past osd past now.all }
+      past_some past e =
+          with_members (with_past osd past now.all)
+          (past_set osd shards at new shard there (same ∙ ap (λ s. s.osd) is) ∙ (λ i. with_past osd (e i) (members_now i)))
+
+      pub scanned_some : AreQuiet stride shards → new.past ≡ after_answer (scan_answer shard.stride shard.past) shard.past
+          → shards_seen stride (set shards at new) ≡ record now { all = with_scanned now.stride osd now.all }
+      scanned_some quiet past =
+          past_some (after_answer (scan_in now.stride now.all osd) (past_in now.all osd)) (past ∙ (λ i. after_answer (scan_now quiet i) (sym past_now i)))
+
+      pub handed_some : new.past ≡ past_after_hand (handed_in shard.osd (scanning shard.past)) shard.past
+          → shards_seen stride (set shards at new) ≡ record now { all = with_handed osd now.all }
+      handed_some past =
+          past_some (past_after_hand (hand_in now.all osd) (past_in now.all osd)) (past ∙ (λ i. past_after_hand (hand_now i) (sym past_now i)))
+
+pub ruleset places = (answer_none, applied_none, event_none, listed_none, damage_none, answer_some, listed_some, damage_some, harmed_some, from_some, same_some, event_some, applied_some)
+
+pub ruleset scans = (idle_none, scanned_none, scan_some, scanned_some)
+
+pub ruleset hands = (hand_none, handed_none, hand_some, handed_some)
 
 -- ---- a device that is to fail no call
 

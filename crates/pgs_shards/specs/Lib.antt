@@ -1,4 +1,4 @@
 -- The members of a group, each with its history.
 pub mod Members
 pub mod Kept
-pub mod Entries
+pub mod Scans

@@ -17,6 +17,11 @@ pub record Member : Type 0 where
   pub osd : ℕ
   pub past : List Event
 
+-- the members' shards: how many bytes each reads of a copy at a step, and the members in declared order
+pub record ShardsState : Type 0 where
+  pub stride : ℕ
+  pub all : List Member
+
 -- members of which nothing is known yet
 abbrev pub beginning : List ℕ → List Member
 beginning osds = map (λ osd. record { osd = osd; past = [] }) osds

@@ -1,46 +1,44 @@
-ghost use Rattle.std.specs.Prelude.{◌≡◌, ◌≤◌, ◌-◌, [], ◌∷◌, ◌++◌, length, map, position, OnOk, OnErr, IfOk};
+ghost use Rattle.std.specs.Prelude.{◌≡◌, ◌≤◌, ◌-◌, [], ◌∷◌, ◌++◌, length, map, position, OnOk, OnErr, IfOk, IfSome};
 ghost use Rattle.pgs_chunk.specs.Listings.{listing};
-ghost use Rattle.pgs_map.specs.Entries.{AreInRange};
 ghost use Rattle.pgs_shard_history.specs.Positions.{positions};
-ghost use Rattle.pgs_shards.specs.Entries.{entries_in};
 ghost use Rattle.pgs_shard_history.specs.Feeds.{AreNext, fed};
 ghost use Rattle.pgs_shard_history.specs.Stores.{applied};
 ghost use Rattle.pgs_shard_history.specs.declared.event.Event.TheVariants as events;
 ghost use Rattle.pgs_shards.specs.Members.{beginning, past_in, with_event, with_applied, apply_answer, damage_in, with_damage};
+ghost use Rattle.pgs_shard.specs.Scans.{IsHandedInRange};
+ghost use Rattle.pgs_shards.specs.Scans.{scan_in, with_scanned, hand_in, with_handed};
 ghost use Rattle.pgs_shards.specs.Kept.{is_of, seen};
 
-use crate::entries::entries_of;
 use crate::quiet;
 use pgs_chunk::Ask;
 use pgs_copy::Damage;
-use pgs_crc::Tables;
-use pgs_map::Entry;
 use pgs_medium::{Item, RamMedium};
 use pgs_name::{Family, ObjectId};
-use pgs_range::{Bound, FamilyRange};
-use pgs_shard::{Applied, Shard};
+use pgs_range::Bound;
+use pgs_shard::{Applied, Deposit, ScanAnswer, Shard};
 use pgs_shard_history::DamageAnswer;
 use sqlite_items::Items;
 use std::alloc::{AllocError, Global};
 use std::marker::Model;
 
-/// The shards of members, each found by its OSD, and seen by their histories.
+/// The shards of members, each found by its OSD, and seen by their histories and by how many bytes of a copy each reads at a step of a
+/// scan.
 #[derive(Drop)]
 pub struct Shards {
     alloc: Global,
+    stride: u32,
     items: Vec<Shard<RamMedium>>,
 }
 
 impl Model for Shards {
-    ghost use Rattle.std.specs.Prelude.{List, map};
-    ghost use Rattle.pgs_shards.specs.Members.{Member};
-    ghost use Rattle.pgs_shards.specs.Kept.{seen, AreQuiet};
+    ghost use Rattle.pgs_shards.specs.Members.{ShardsState};
+    ghost use Rattle.pgs_shards.specs.Kept.{shards_seen, AreQuiet};
 
-    ghost Value = { List Member };
+    ghost Value = { ShardsState };
 
-    ghost view = { λ s. map seen s.items.items };
+    ghost view = { λ s. shards_seen s.stride s.items.items };
 
-    ghost invariant = { λ s. AreQuiet s.items.items };
+    ghost invariant = { λ s. AreQuiet s.stride s.items.items };
 }
 
 // Where the shard of an OSD is.
@@ -58,30 +56,36 @@ fn count(shard: &Shard<RamMedium>) -> u64
 }
 
 impl Shards {
-    /// A shard for each OSD, of which nothing is known yet.
-    #[tactic(auto, using(crate::proofs::Places::quiet_more, crate::proofs::Places::begun_more))]
-    pub fn new(alloc: Global, osds: &[u32]) -> Result<Shards, AllocError>
-        ensures { IfOk result (λ shards. shards ≡ beginning osds.now) }
+    /// A shard for each OSD, of which nothing is known yet. Scans read so many bytes of a copy's data at a step.
+    #[tactic(auto, using(crate::proofs::Places::quiet_more, crate::proofs::Places::begun_more), unfolding(crate::specs::Kept::shards_seen))]
+    pub fn new(alloc: Global, osds: &[u32], stride: u32) -> Result<Shards, AllocError>
+        requires { 1 ≤ stride }
+        ensures { IfOk result (λ shards. shards ≡ record { stride = stride; all = beginning osds.now }) }
     {
         let mut items = Vec::new(alloc);
         for osd in osds {
-            let shard = quiet::begin(alloc, *osd);
+            let shard = quiet::begin(alloc, *osd, stride);
             items.push(shard)?;
         }
-        Ok(Shards { alloc, items })
+        Ok(Shards {
+            alloc,
+            stride,
+            items,
+        })
     }
 
     /// The shards, in declared order.
+    #[tactic(auto, unfolding(crate::specs::Kept::shards_seen))]
     pub fn as_slice(&self) -> &[Shard<RamMedium>]
-        ensures { map seen result.now ≡ self.now }
+        ensures { map seen result.now ≡ self.now.all }
     {
         self.items.as_slice()
     }
 
     /// The number of the item that an OSD applied last: 0 before the first, and for one that is no member.
-    #[tactic(auto, using(crate::proofs::Places::past_at, crate::proofs::Places::past_nowhere))]
+    #[tactic(auto, using(crate::proofs::Places::past_at, crate::proofs::Places::past_nowhere), unfolding(crate::specs::Kept::shards_seen))]
     pub fn applied(&self, osd: u32) -> u64
-        ensures { result ≡ applied (past_in self.now osd) }
+        ensures { result ≡ applied (past_in self.now.all osd) }
     {
         match place(self.items.as_slice(), osd) {
             Some(at) => self.items[at].applied(),
@@ -90,9 +94,9 @@ impl Shards {
     }
 
     /// How many events an OSD's history has: none for one that is no member.
-    #[tactic(auto, using(crate::proofs::Places::past_at, crate::proofs::Places::past_nowhere))]
+    #[tactic(auto, using(crate::proofs::Places::past_at, crate::proofs::Places::past_nowhere), unfolding(crate::specs::Kept::shards_seen))]
     pub fn events(&self, osd: u32) -> u64
-        ensures { result ≡ length (past_in self.now osd) }
+        ensures { result ≡ length (past_in self.now.all osd) }
     {
         match place(self.items.as_slice(), osd) {
             Some(at) => count(&self.items[at]),
@@ -103,8 +107,8 @@ impl Shards {
     /// Applies the next item of an OSD, if one waits.
     #[tactic(auto, using(crate::proofs::Places::places, crate::proofs::Places::quiet_set))]
     pub fn apply_next(&mut self, osd: u32) -> Result<Applied, AllocError>
-        ensures answer { IfOk result (λ answer. answer ≡ apply_answer (past_in self.old osd)) }
-        ensures kept { OnOk result (self.new ≡ with_applied osd self.old) }
+        ensures answer { IfOk result (λ answer. answer ≡ apply_answer (past_in self.old.all osd)) }
+        ensures kept { OnOk result (self.new ≡ record self.old { all = with_applied osd self.old.all }) }
         ensures err { OnErr result (self.new ≡ self.old) }
     {
         match place(self.items.as_slice(), osd) {
@@ -127,8 +131,8 @@ impl Shards {
         ask: Option<Ask>,
     ) -> Result<(), AllocError>
         requires next { AreNext from items }
-        requires from { from ≤ length (fed (past_in self.old osd)) }
-        ensures kept { OnOk result (self.new ≡ with_event osd (events.Fed from items ask) self.old) }
+        requires from { from ≤ length (fed (past_in self.old.all osd)) }
+        ensures kept { OnOk result (self.new ≡ record self.old { all = with_event osd (events.Fed from items ask) self.old.all }) }
         ensures err { OnErr result (self.new ≡ self.old) }
     {
         match place(self.items.as_slice(), osd) {
@@ -151,8 +155,8 @@ impl Shards {
         snap: u64,
         damage: Damage,
     ) -> Result<DamageAnswer, AllocError>
-        ensures answer { IfOk result (λ a. a ≡ damage_in self.old osd family snap damage) }
-        ensures kept { OnOk result (self.new ≡ with_damage osd family snap damage self.old) }
+        ensures answer { IfOk result (λ a. a ≡ damage_in self.old.all osd family snap damage) }
+        ensures kept { OnOk result (self.new ≡ record self.old { all = with_damage osd family snap damage self.old.all }) }
         ensures err { OnErr result (self.new ≡ self.old) }
     {
         match place(self.items.as_slice(), osd) {
@@ -177,7 +181,7 @@ impl Shards {
         start: &Bound,
         limit: u32,
     ) -> Result<Items<ObjectId>, AllocError>
-        ensures listed { IfOk result (λ ids. ids ≡ listing limit start.now (positions (past_in self.old osd))) }
+        ensures listed { IfOk result (λ ids. ids ≡ listing limit start.now (positions (past_in self.old.all osd))) }
         ensures kept { self.new ≡ self.old }
     {
         match place(self.items.as_slice(), osd) {
@@ -190,32 +194,45 @@ impl Shards {
         }
     }
 
-    /// What an OSD stores of a range: an entry for each copy, in the order of positions, with digests where data and omaps are read. It is
-    /// no call of its device.
-    #[tactic(auto, using(crate::proofs::Places::places, crate::proofs::Made::in_ranges))]
-    pub fn entries(
-        &self,
-        alloc: Global,
-        tables: &Tables<1>,
-        osd: u32,
-        range: &FamilyRange,
-        deep: bool,
-    ) -> Result<Items<Entry>, AllocError>
-        ensures told { IfOk result (λ entries. entries ≡ entries_in deep range.now (past_in self.now osd)) }
-
-        // They ascend, and lie in the range.
-        ensures in_range { IfOk result (λ entries. AreInRange range.now entries) }
+    /// Makes one small step of the scan of an OSD's newest ask. One that is no member has none.
+    #[tactic(auto, using(crate::proofs::Places::scans, crate::proofs::Places::same_some, crate::proofs::Places::quiet_set))]
+    pub fn scan(&mut self, osd: u32) -> Result<ScanAnswer, AllocError>
+        ensures answer { IfOk result (λ a. a ≡ scan_in self.old.stride self.old.all osd) }
+        ensures kept { OnOk result (self.new ≡ record self.old { all = with_scanned self.old.stride osd self.old.all }) }
+        ensures err { OnErr result (self.new ≡ self.old) }
     {
         match place(self.items.as_slice(), osd) {
-            Some(at) => entries_of(alloc, tables, &self.items[at], range, deep),
-            None => Ok(Items::new(alloc)),
+            Some(at) => {
+                let shard = &mut self.items[at];
+                let answer = quiet::scan(shard)?;
+                Ok(answer)
+            }
+            None => Ok(ScanAnswer::Idle),
+        }
+    }
+
+    /// Hands what that scan ended with, once. One that is no member has nothing to hand.
+    #[tactic(auto, using(crate::proofs::Places::hands, crate::proofs::Places::quiet_set))]
+    pub fn hand(&mut self, osd: u32) -> Option<Deposit>
+        ensures handed { result ≡ hand_in self.old.all osd }
+        ensures kept { self.new ≡ record self.old { all = with_handed osd self.old.all } }
+
+        // The entries of a map are in order and of its range.
+        ensures in_range { IfSome result IsHandedInRange }
+    {
+        match place(self.items.as_slice(), osd) {
+            Some(at) => {
+                let shard = &mut self.items[at];
+                quiet::hand(shard)
+            }
+            None => None,
         }
     }
 
     /// How many items of an OSD wait to be applied.
-    #[tactic(auto, using(crate::proofs::Places::past_at, crate::proofs::Places::past_nowhere))]
+    #[tactic(auto, using(crate::proofs::Places::past_at, crate::proofs::Places::past_nowhere), unfolding(crate::specs::Kept::shards_seen))]
     pub fn waiting(&self, osd: u32) -> u64
-        ensures { result ≡ length (fed (past_in self.now osd)) - applied (past_in self.now osd) }
+        ensures { result ≡ length (fed (past_in self.now.all osd)) - applied (past_in self.now.all osd) }
     {
         match place(self.items.as_slice(), osd) {
             Some(at) => {

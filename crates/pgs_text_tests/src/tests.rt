@@ -4,6 +4,7 @@ mod objects;
 mod operations;
 mod printed;
 mod printing;
+mod scans;
 mod scripts;
 mod scrubs;
 mod words;

@@ -1,8 +1,8 @@
 -- The lines of what was done.
 use Rattle.std.proofs.Common.{◌≡◌, ℕ, ◌+◌, ◌<◌, ◌≤◌, List, [], ◌∷◌, ◌++◌, length, get_or, drop, reverse, refl, sym, ap, ◌∙◌, append_assoc}
 use Rattle.std.proofs.lemmas.List.{drop_more, drop_all, reverse-reverse}
-use Rattle.pgs_lines.specs.Done.{done_line}
-use Rattle.pgs_lines.specs.declared.done.Done.{Done}
+use Rattle.pgs_done.specs.Done.{done_line}
+use Rattle.pgs_done.specs.declared.done.Done.{Done}
 use Rattle.pgs_top.specs.Output.{lines}
 
 -- one line more is written

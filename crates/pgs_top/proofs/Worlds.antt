@@ -26,6 +26,11 @@ step_named settings group (steps.Basic (basics.Pull g osd)) is e = (names_member
 step_named settings group (steps.Basic (basics.Apply g osd)) is e = tt
 step_named settings group (steps.Basic (basics.Tell g osd)) is e = tt
 step_named settings group (steps.Basic (basics.Damage g osd object snap damage)) is e = tt
+step_named settings group (steps.Basic (basics.Begin g kind)) is e = tt
+step_named settings group (steps.Basic (basics.Open g)) is e = tt
+step_named settings group (steps.Basic (basics.Scan g osd)) is e = tt
+step_named settings group (steps.Basic (basics.Take g osd)) is e = (names_member group g osd is e).1
+step_named settings group (steps.Basic (basics.Close g)) is e = tt
 step_named settings group (steps.Settle g) is e = tt
 step_named settings group (steps.Sweep g kind) is e = tt
 
@@ -39,18 +44,18 @@ all_named settings group (other ∷ more) script is all = absurd is
 
 pub acknowledged : (world : Option WorldState) → OfWorld IsSound world → OfWorld AreAcknowledged world
 acknowledged None sound = tt
-acknowledged (Some w) sound = sound.acknowledged
+acknowledged (Some w) sound = sound.steady.acknowledged
 
 pub in_step : (world : Option WorldState) → OfWorld IsSound world → OfWorld AreInStep world
 in_step None sound = tt
-in_step (Some w) sound = sound.in_step
+in_step (Some w) sound = sound.steady.in_step
 
 pub orderly : (world : Option WorldState) → OfWorld IsSound world → OfWorld IsOrderly world
 orderly None sound = tt
-orderly (Some w) sound = sound.orderly
+orderly (Some w) sound = sound.steady.orderly
 
-pub opening_named : (world : WorldState) (made wanted : Made) (script : List Step) → world ≡ opening made → made ≡ wanted → AreNamed wanted script → AreNamed world.made script
-opening_named world made wanted script is e named = subst (λ m. AreNamed m script) (sym (ap (λ w. w.made) is ∙ e)) named
+pub opening_named : (world : WorldState) (made wanted : Made) (stride : ℕ) (script : List Step) → world ≡ opening made stride → made ≡ wanted → AreNamed wanted script → AreNamed world.made script
+opening_named world made wanted stride script is e named = subst (λ m. AreNamed m script) (sym (ap (λ w. w.made) is ∙ e)) named
 
 -- ---- there is a primary
 

@@ -17,7 +17,7 @@ made_of settings group = record { number = group.group; epoch = group.epoch; mem
 -- the first group's world after all steps: none where no group is declared
 abbrev pub world_of : Settings → List Group → List Step → Option WorldState
 world_of settings [] script = None
-world_of settings (group ∷ groups) script = Some (after_steps (opening (made_of settings group)) script)
+world_of settings (group ∷ groups) script = Some (after_steps (opening (made_of settings group) settings.stride) script)
 
 abbrev pub histories_of : Settings → StepScript → Histories
 histories_of settings script = record { declared = script.declared; world = world_of settings script.declared.groups script.steps }

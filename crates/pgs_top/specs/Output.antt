@@ -1,7 +1,7 @@
 -- What the program writes.
 use Rattle.std.specs.Prelude.{ℕ, List, [], ◌∷◌, ◌++◌, reverse, Option, Some, None, codes}
-use Rattle.pgs_lines.specs.Done.{line_of, done_line}
-use Rattle.pgs_lines.specs.declared.done.Done.{Done}
+use Rattle.pgs_done.specs.Done.{line_of, done_line}
+use Rattle.pgs_done.specs.declared.done.Done.{Done}
 use Rattle.pgs_world.specs.State.{WorldState}
 use Rattle.pgs_top.specs.declared.histories.Histories.{Histories}
 

@@ -1,5 +1,5 @@
 //! The histories of a script.
-ghost use Rattle.std.specs.Prelude.{◌≡◌, true, is_some, IfOk};
+ghost use Rattle.std.specs.Prelude.{◌≡◌, ◌≤◌, true, is_some, IfOk};
 ghost use Rattle.pgs_history.specs.Answers.{primary};
 ghost use Rattle.pgs_order.specs.Ordered.{IsOrdered, AreGroups, AreNamed as AreNamedIn};
 ghost use Rattle.pgs_world.specs.State.{opening};
@@ -51,13 +51,14 @@ fn world_of(
     script: &[Step],
 ) -> Result<World, AllocError>
     requires named { AreNamed (histories.made_of settings group.now) script.now }
+    requires stride { 1 ≤ settings.stride }
     requires some { is_some (primary (histories.made_of settings group.now)) ≡ true }
-    ensures world { IfOk result (λ w. w ≡ after_steps (opening (histories.made_of settings group.now)) script.now) }
+    ensures world { IfOk result (λ w. w ≡ after_steps (opening (histories.made_of settings group.now) settings.stride) script.now) }
     ensures sound { IfOk result (λ w. IsSound w) }
     ensures scrubbed { IfOk result (λ w. AreScrubbed w) }
 {
     let made = made_of(alloc, settings, group)?;
-    let mut world = World::new(alloc, made)?;
+    let mut world = World::new(alloc, made, settings.stride)?;
     world.run(script)?;
     Ok(world)
 }
@@ -72,6 +73,7 @@ fn first_world(
 ) -> Result<Option<World>, AllocError>
     requires groups { AreGroups groups.now }
     requires named { AreNamedIn groups.now script.now }
+    requires stride { 1 ≤ settings.stride }
     ensures world { IfOk result (λ w. w ≡ histories.world_of settings groups.now script.now) }
     ensures sound { IfOk result (λ w. OfWorld IsSound w) }
     ensures scrubbed { IfOk result (λ w. OfWorld AreScrubbed w) }
@@ -85,7 +87,8 @@ fn first_world(
 
 /// What happens in a script.
 pub fn keep(alloc: Global, settings: Settings, script: StepScript) -> Result<Histories, AllocError>
-    requires { IsOrdered script }
+    requires ordered { IsOrdered script }
+    requires stride { 1 ≤ settings.stride }
     ensures kept { IfOk result (λ kept. kept ≡ histories.histories_of settings script) }
     ensures sound { IfOk result (λ kept. OfWorld IsSound kept.world) }
     ensures scrubbed { IfOk result (λ kept. OfWorld AreScrubbed kept.world) }

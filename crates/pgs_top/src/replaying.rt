@@ -57,7 +57,8 @@ fn read_script<S: Source>(alloc: Global, source: &mut S) -> Result<StepScript, S
 
 // What happens in a script, written.
 fn run<K: Sink>(alloc: Global, settings: Settings, script: StepScript, sink: &mut K) -> Ended
-    requires { IsOrdered script }
+    requires ordered { IsOrdered script }
+    requires stride { 1 ≤ settings.stride }
     ensures run { IsRun settings script result.kept result.status }
     ensures sound { OfWorld IsSound result.kept.world }
     ensures scrubbed { OfWorld AreScrubbed result.kept.world }
@@ -96,6 +97,7 @@ pub fn replay<S: Source, K: Sink>(
     source: &mut S,
     sink: &mut K,
 ) -> Ended
+    requires stride { 1 ≤ settings.stride }
     // How it ends is due for what was read,
     ensures due { Due settings (S.left source.old) result.kept result.status }
     // and what is written for what happened.
@@ -106,9 +108,10 @@ pub fn replay<S: Source, K: Sink>(
     ensures orderly { OfWorld IsOrderly result.kept.world }
     // Members told of no more than they applied, and applied no more than they pulled of the log, in its order.
     ensures in_step { OfWorld AreInStep result.kept.world }
-    // No scrub was left running; each chunk was closed once; and the closed chunks of each scrub lie in a row, those of a
-    // complete one from below all families to above them, so that they hold each position once. Each map that was taken
-    // tells of the copies that its OSD stored at the place of its history that the map names.
+    // Each chunk but the open one was closed or gave way to a write, once; and the closed chunks of each scrub lie in a row, those
+    // of a complete one from below all families to above them, so that they hold each position once. Writes wait only for an open
+    // chunk that is firm and has their family, and nothing came into an open chunk's range after it was opened. Each map that was
+    // taken is what its OSD's scan had ended with at the place of its history that the take names.
     ensures scrubbed { OfWorld AreScrubbed result.kept.world }
     // A fault comes only where the count of that end rose.
     ensures read_fault { result.status ≡ Status.ReadFault → Rose (S.faults source.old) (S.faults source.new) }

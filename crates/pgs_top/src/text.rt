@@ -2,7 +2,7 @@ ghost use Rattle.std.specs.Prelude.{◌≡◌, ◌++◌, reverse, IfOk, OnOk};
 ghost use Rattle.pgs_top.specs.Output as output;
 
 use crate::histories::Histories;
-use pgs_lines::{Done, print};
+use pgs_done::{Done, print};
 use std::alloc::{AllocError, Global};
 
 // The lines of what was done.

@@ -2,4 +2,3 @@
 mod group;
 mod log;
 mod run;
-mod scrub;

@@ -1,12 +1,20 @@
 -- What every step of a script keeps.
 pub mod Items
+pub mod Members
+pub mod Asks
+pub mod Mapped
 pub mod InStep
 pub mod Acks
 pub mod Cites
-pub mod Scrubs
-pub mod Walks
+pub mod Opens
+pub mod Versions
+pub mod Inside
+pub mod Compared
+pub mod Takes
+pub mod Steady
+pub mod Admissions
 pub mod Sound
 pub mod Pulls
 pub mod Settles
-pub mod Idle
+pub mod Sweeps
 pub mod Runs

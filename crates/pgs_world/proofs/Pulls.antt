@@ -7,14 +7,17 @@ use Rattle.pgs_history.proofs.Ids.{numbered}
 use Rattle.pgs_shard_history.specs.Feeds.{AreNext, fed}
 use Rattle.pgs_shards.specs.Members.{past_in}
 use Rattle.pgs_world.specs.State.{WorldState}
-use Rattle.pgs_world.specs.Counts.{is_member, AreInStep}
+use Rattle.pgs_world.specs.Counts.{is_member}
+use Rattle.pgs_world.specs.Sound.{IsSound}
 use Rattle.pgs_world.proofs.Items.{next_newer, length_upto}
 
-pub pull_next : (w : WorldState) (osd : ℕ) → AreInStep w → is_member w.made osd ≡ true → AreNext (pulled w.past osd) (reverse (newer (pulled w.past osd) (log w.past)))
-pull_next w osd h member = next_newer (pulled w.past osd) (log w.past) (numbered w.made w.past h.legal) (h.each osd member).pulled_log
+pub pull_next : (w : WorldState) (osd : ℕ) → IsSound w → is_member w.made osd ≡ true → AreNext (pulled w.past osd) (reverse (newer (pulled w.past osd) (log w.past)))
+pull_next w osd s member =
+    let h = s.steady.in_step in next_newer (pulled w.past osd) (log w.past) (numbered w.made w.past h.legal) (h.each osd member).pulled_log
 
-pub pull_from : (w : WorldState) (osd : ℕ) → AreInStep w → is_member w.made osd ≡ true → pulled w.past osd ≤ length (fed (past_in w.members osd))
-pull_from w osd h member =
+pub pull_from : (w : WorldState) (osd : ℕ) → IsSound w → is_member w.made osd ≡ true → pulled w.past osd ≤ length (fed (past_in w.members osd))
+pull_from w osd s member =
+    let h = s.steady.in_step in
     let one = h.each osd member in
     let size : length (fed (past_in w.members osd)) ≡ pulled w.past osd = ap length one.items ∙ length_upto (pulled w.past osd) (log w.past) (numbered w.made w.past h.legal) one.pulled_log in
     omega (arith, size)

@@ -7,7 +7,8 @@ use Rattle.std.proofs.lemmas.List.{drop_more, drop_all}
 use Rattle.pgs_world.specs.State.{WorldState}
 use Rattle.pgs_world.specs.Basics.{after_applying, after_pulling}
 use Rattle.pgs_world.specs.Counts.{is_member}
-use Rattle.pgs_world.proofs.Sound.{sound_member}
+use Rattle.pgs_history.specs.Parked.{is_admitting}
+use Rattle.pgs_world.proofs.Sound.{sound_pull, sound_all, sound_member}
 use Rattle.pgs_world.specs.Steps.{waiting, applied_times, applied_all, member_settled, settled}
 use Rattle.pgs_world.specs.Sound.{IsSound}
 
@@ -27,6 +28,11 @@ pub all_applied : {E : Type 0} (answer : Result Unit E) (old now last : WorldSta
 all_applied (Ok done) old now last waits counter group osd e is over so_far = e ∙ all_at_once old now waits counter group osd is over so_far
 all_applied (Err why) old now last waits counter group osd e is over so_far = tt
 
+-- then nothing is to be taken up
+pub applied_idle : (w p v : WorldState) (group osd : ℕ) → IsSound w → p ≡ after_pulling w group osd → v ≡ applied_all p group osd → is_admitting v.past ≡ false
+applied_idle w p v group osd s pulled applied =
+    ap (λ x. is_admitting x.past) (applied ∙ ap (λ x. applied_all x group osd) pulled) ∙ (sound_all (after_pulling w group osd) group osd (sound_pull w group osd s)).idle
+
 -- on the way through the members, of which those from a place on are left
 pub record IsSettling (start : WorldState) (group : ℕ) (members : List ℕ) (place : ℕ) (now : WorldState) : Type 0 where
   pub all : members ≡ start.made.members
@@ -37,7 +43,7 @@ pub record IsSettling (start : WorldState) (group : ℕ) (members : List ℕ) (p
 pub settling_begins : (start : WorldState) (group : ℕ) (members : List ℕ) → IsSound start → members ≡ start.made.members → IsSettling start group members 0 start
 settling_begins start group members sound is = record { all = is; rest = ap (settled start group) is; sound = sound; same = refl }
 
-among : (xs : List ℕ) (i x : ℕ) → i < length xs → x ≡ get_or xs i x → list_any (λ other. other == x) xs ≡ true
+pub among : (xs : List ℕ) (i x : ℕ) → i < length xs → x ≡ get_or xs i x → list_any (λ other. other == x) xs ≡ true
 among [] i x within is = absurd (omega (arith, within))
 among (y ∷ xs) zero x within is = ap (λ v. v || list_any (λ other. other == x) xs) (let same : (y == x) ≡ true = grind (arith, nat_tests, is) in same)
 among (y ∷ xs) (suc i) x within is =

@@ -3,15 +3,16 @@ use Rattle.std.specs.Prelude.{◌≡◌, ◌≤◌, Some}
 use Rattle.std.specs.List.{AllByRecursion}
 use Rattle.pgs_request.specs.declared.req_id.ReqId.{ReqId}
 use Rattle.pgs_request.specs.declared.version.Version.{Version}
-use Rattle.pgs_request.specs.declared.answers.CollectAnswer.TheVariants.{Acked}
-use Rattle.pgs_lines.specs.declared.done.Done.{Done}
-use Rattle.pgs_lines.specs.declared.done.Done.TheVariants.{Collect}
+use Rattle.pgs_done.specs.declared.collect_answer.CollectAnswer.TheVariants.{Acked}
+use Rattle.pgs_done.specs.declared.done.Done.{Done}
+use Rattle.pgs_done.specs.declared.done.Done.TheVariants.{Collect}
 use Rattle.pgs_op_log.specs.Logs.{version_in}
 use Rattle.pgs_history.specs.Log.{ids}
 use Rattle.pgs_history.specs.Members.{told}
 use Rattle.pgs_history.specs.Facts.{times}
 use Rattle.pgs_world.specs.State.{WorldState}
-use Rattle.pgs_world.specs.Basics.{id_of, applied_by}
+use Rattle.pgs_world.specs.Naming.{id_of}
+use Rattle.pgs_world.specs.Basics.{applied_by}
 
 -- A write is acknowledged: it stands in the log under its version, once; and every acting OSD has applied it and told so.
 pub record IsAcknowledged (w : WorldState) (id : ReqId) (version : Version) : Type 0 where

@@ -3,6 +3,7 @@
 
 mod naming;
 mod saying;
+mod scans;
 mod world;
 
 pub use world::World;

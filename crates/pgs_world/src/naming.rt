@@ -1,6 +1,6 @@
 //! What the words of a line name.
 ghost use Rattle.std.specs.Prelude.{◌≡◌, IfOk};
-ghost use Rattle.pgs_world.specs.Basics as basics;
+ghost use Rattle.pgs_world.specs.Naming as defined;
 
 use pgs_copy::Damage;
 use pgs_lines::{Object, Snap};
@@ -11,7 +11,7 @@ use std::alloc::{AllocError, Global};
 
 /// The family of an object.
 pub fn family_of(object: &Object) -> Result<Family, AllocError>
-    ensures { IfOk result (λ family. family ≡ basics.family_of object.now) }
+    ensures { IfOk result (λ family. family ≡ defined.family_of object.now) }
 {
     let space = object.space.clone()?;
     let key = object.key.clone()?;
@@ -27,7 +27,7 @@ pub fn write_of(
     context: &SnapContext,
     op: &Op,
 ) -> Result<Write, AllocError>
-    ensures { IfOk result (λ write. write ≡ basics.write_of client serial object.now context.now op.now) }
+    ensures { IfOk result (λ write. write ≡ defined.write_of client serial object.now context.now op.now) }
 {
     let family = family_of(object)?;
     let context = context.clone()?;
@@ -42,7 +42,7 @@ pub fn write_of(
 }
 
 pub fn snap_of(snap: Snap) -> u64
-    ensures { result ≡ basics.snap_of snap }
+    ensures { result ≡ defined.snap_of snap }
 {
     match snap {
         Snap::Head => HEAD,
@@ -52,7 +52,7 @@ pub fn snap_of(snap: Snap) -> u64
 
 /// The damage that a line asks for.
 pub fn damage_of(alloc: Global, damage: &pgs_lines::Damage) -> Result<Damage, AllocError>
-    ensures { IfOk result (λ d. d ≡ basics.damage_of damage.now) }
+    ensures { IfOk result (λ d. d ≡ defined.damage_of damage.now) }
 {
     match damage {
         pgs_lines::Damage::Lose => Ok(Damage::Lose),
@@ -84,5 +84,14 @@ pub fn damage_of(alloc: Global, damage: &pgs_lines::Damage) -> Result<Damage, Al
             let bytes = payload.to_bytes(alloc)?;
             Ok(Damage::SetHeader { bytes })
         }
+    }
+}
+
+pub fn kind_of(kind: pgs_lines::Kind) -> pgs_chunk::Kind
+    ensures { result ≡ defined.kind_of kind }
+{
+    match kind {
+        pgs_lines::Kind::Shallow => pgs_chunk::Kind::Shallow,
+        pgs_lines::Kind::Deep => pgs_chunk::Kind::Deep,
     }
 }

@@ -1,29 +1,36 @@
-ghost use Rattle.std.specs.Prelude.{◌≡◌, ℕ, true, reverse, is_some, None, IfOk, OnOk};
-ghost use Rattle.pgs_history.specs.Scrubs.{running};
+ghost use Rattle.std.specs.Prelude.{◌≡◌, ◌≤◌, ℕ, true, false, reverse, is_some, option_map, None, IfOk, OnOk};
 ghost use Rattle.pgs_history.specs.Answers.{primary};
+ghost use Rattle.pgs_history.specs.Parked.{is_admitting};
 ghost use Rattle.pgs_shards.specs.Members.{damage_in, with_damage};
+ghost use Rattle.pgs_shards.specs.Scans.{scan_in};
 ghost use Rattle.pgs_world.specs.State.{opening};
+ghost use Rattle.pgs_world.specs.Naming as naming;
 ghost use Rattle.pgs_world.specs.Basics as basics;
+ghost use Rattle.pgs_world.specs.Admissions.{all_admitted};
 ghost use Rattle.pgs_world.specs.Steps as steps;
-ghost use Rattle.pgs_world.specs.Counts.{is_member, AreInStep, IsNamed, IsNamedStep, AreNamed};
-ghost use Rattle.pgs_world.specs.Sound.{IsSound};
+ghost use Rattle.pgs_world.specs.Counts.{is_member, IsNamed, IsNamedStep, AreNamed};
+ghost use Rattle.pgs_world.specs.Sound.{IsSound, IsSteady};
 ghost use Rattle.pgs_world.specs.Scrubbed.{AreScrubbed};
 ghost use Rattle.pgs_lines.specs.Contexts.{meant};
 
 use crate::naming::{damage_of, family_of, snap_of, write_of};
-use crate::saying::damage_said;
-use pgs_group::Group;
+use crate::saying::{apply_said, collect_said, damage_said, scan_said, write_said};
+use pgs_chunk::Ask;
+use pgs_done::Done;
+use pgs_group::{Group, Pulled};
 use pgs_history::Made;
-use pgs_lines::{ApplyAnswer, Basic, Context, Damage, Done, Object, Snap, Step};
+use pgs_lines::{Basic, Context, Damage, Object, Snap, Step};
 use pgs_request::{Op, ReqId};
-use pgs_shard::Applied;
+use pgs_shard::ScanAnswer;
 use pgs_shard_history::DamageAnswer;
 use pgs_shards::Shards;
 use sqlite_items::Items;
 use std::alloc::{AllocError, Global};
 use std::marker::Model;
 
+mod admissions;
 mod scrubs;
+mod sweeps;
 
 /// A group with the shards of its members, and what was done to them.
 #[derive(Drop)]
@@ -42,29 +49,41 @@ impl Model for World {
 
     ghost view = { λ w. record {
       made = w.group.made;
+      stride = w.shards.stride;
       past = w.group.past;
-      members = w.shards;
+      members = w.shards.all;
       done = reverse w.done.items;
     } };
 }
 
+// The chunk of an ask, if there is one.
+fn chunk_of(ask: &Option<Ask>) -> Option<u64>
+    ensures { result ≡ option_map (λ a. a.chunk) ask.now }
+{
+    match ask {
+        Some(ask) => Some(ask.chunk),
+        None => None,
+    }
+}
+
 impl World {
-    /// Before the first step.
-    #[tactic(auto, using(crate::proofs::Idle::opening_idle))]
-    pub fn new(alloc: Global, made: Made) -> Result<World, AllocError>
+    /// Before the first step. Members read so many bytes of a copy's data at a step of a scan.
+    #[tactic(auto, using(crate::proofs::Sound::opening_sound))]
+    pub fn new(alloc: Global, made: Made, stride: u32) -> Result<World, AllocError>
         requires some { is_some (primary made) ≡ true }
-        ensures world { IfOk result (λ w. w ≡ opening made) }
+        requires stride { 1 ≤ stride }
+        ensures world { IfOk result (λ w. w ≡ opening made stride) }
         ensures sound { IfOk result (λ w. IsSound w) }
-        ensures idle { IfOk result (λ w. running w.past ≡ None) }
     {
-        let world = World::begin(alloc, made)?;
+        let world = World::begin(alloc, made, stride)?;
         Ok(world)
     }
 
-    fn begin(alloc: Global, made: Made) -> Result<World, AllocError>
-        ensures { IfOk result (λ w. w ≡ opening made) }
+    fn begin(alloc: Global, made: Made, stride: u32) -> Result<World, AllocError>
+        requires { 1 ≤ stride }
+        ensures { IfOk result (λ w. w ≡ opening made stride) }
     {
-        let shards = Shards::new(alloc, made.members.as_slice())?;
+        let shards = Shards::new(alloc, made.members.as_slice(), stride)?;
         Ok(World {
             alloc,
             group: Group::new(alloc, made),
@@ -89,12 +108,14 @@ impl World {
         context: &Context,
         op: &Op,
     ) -> Result<(), AllocError>
+        requires idle { is_admitting self.old.past ≡ false }
         ensures { OnOk result (self.new ≡ basics.after_write self.old client serial object.now (meant context.now) op.now) }
     {
         self.done.reserve(1)?;
         let context = context.meant(self.alloc)?;
         let write = write_of(client, serial, object, &context, op)?;
         let answer = self.group.submit(write)?;
+        let answer = write_said(self.alloc, &answer)?;
         let object = object.clone()?;
         let op = op.clone()?;
         self.done.push_reserved(Done::Write {
@@ -110,6 +131,7 @@ impl World {
 
     // A client asks for the outcome of a request.
     fn collect(&mut self, group: u32, client: u32, serial: u32) -> Result<(), AllocError>
+        requires idle { is_admitting self.old.past ≡ false }
         ensures { OnOk result (self.new ≡ basics.after_collecting self.old group client serial) }
     {
         self.done.reserve(1)?;
@@ -118,30 +140,36 @@ impl World {
             group,
             client,
             serial,
-            answer,
+            answer: collect_said(answer),
         });
         Ok(())
     }
 
-    // A member pulls the log. Where memory runs out it may have pulled items that its shard wasn't fed.
+    // A member pulls the log, and is told what it is asked for. Where memory runs out it may have pulled items that its shard wasn't fed.
     #[tactic(auto, using(crate::proofs::Pulls::pull_next, crate::proofs::Pulls::pull_from))]
     fn pull(&mut self, group: u32, osd: u32) -> Result<(), AllocError>
-        requires in_step { AreInStep self.old }
+        requires sound { IsSound self.old }
         requires member { is_member self.old.made osd ≡ true }
         ensures { OnOk result (self.new ≡ basics.after_pulling self.old group osd) }
     {
         self.done.reserve(1)?;
-        let pulled = self.group.pull(osd)?;
-        let from = pulled.from;
-        let to = pulled.to;
-        if from < to {
-            self.shards.feed(osd, from, pulled.items, None)?;
+        let Pulled {
+            from,
+            to,
+            items,
+            ask,
+            is_new,
+        } = self.group.pull(osd)?;
+        let asked = chunk_of(&ask);
+        if is_new {
+            self.shards.feed(osd, from, items, ask)?;
         }
         self.done.push_reserved(Done::Pull {
             group,
             osd,
             from,
             to,
+            asked,
         });
         Ok(())
     }
@@ -151,13 +179,14 @@ impl World {
         ensures { OnOk result (self.new ≡ basics.after_applying self.old group osd) }
     {
         self.done.reserve(1)?;
-        let answer = answer_of(self.shards.apply_next(osd)?);
+        let answer = apply_said(self.shards.apply_next(osd)?);
         self.done.push_reserved(Done::Apply { group, osd, answer });
         Ok(())
     }
 
     // A member tells how far it has applied the log.
     fn tell(&mut self, group: u32, osd: u32) -> Result<(), AllocError>
+        requires idle { is_admitting self.old.past ≡ false }
         ensures { OnOk result (self.new ≡ basics.after_telling self.old group osd) }
     {
         self.done.reserve(1)?;
@@ -203,31 +232,44 @@ impl World {
         snap: Snap,
         damage: &Damage,
     ) -> Result<DamageAnswer, AllocError>
-        ensures answer { IfOk result (λ a. a ≡ damage_in self.old.members osd (basics.family_of object.now) (basics.snap_of snap) (basics.damage_of damage.now)) }
-        ensures kept { OnOk result (self.new ≡ record self.old { members = with_damage osd (basics.family_of object.now) (basics.snap_of snap) (basics.damage_of damage.now) self.old.members }) }
+        ensures answer { IfOk result (λ a. a ≡ damage_in self.old.members osd (naming.family_of object.now) (naming.snap_of snap) (naming.damage_of damage.now)) }
+        ensures kept { OnOk result (self.new ≡ record self.old { members = with_damage osd (naming.family_of object.now) (naming.snap_of snap) (naming.damage_of damage.now) self.old.members }) }
     {
         let family = family_of(object)?;
         let damage = damage_of(self.alloc, damage)?;
         self.shards.damage(osd, family, snap_of(snap), damage)
     }
 
-    /// Does a single step, and keeps it with its answer. Where memory runs out a part of it may be done.
-    #[tactic(auto, using(crate::proofs::Sound::sound_basic, crate::proofs::Idle::basic_idle))]
+    // A member makes a small step of its scan.
+    fn scan(&mut self, group: u32, osd: u32) -> Result<ScanAnswer, AllocError>
+        ensures answer { IfOk result (λ a. a ≡ scan_in self.old.stride self.old.members osd) }
+        ensures after { OnOk result (self.new ≡ basics.after_scanning self.old group osd) }
+    {
+        self.done.reserve(1)?;
+        let scanned = self.shards.scan(osd)?;
+        let answer = scan_said(self.alloc, &scanned)?;
+        self.done.push_reserved(Done::Scan { group, osd, answer });
+        Ok(scanned)
+    }
+
+    /// Does a single step, and keeps it with its answer, and takes up the writes that waited and need not wait any more. Where
+    /// memory runs out a part of it may be done.
+    #[tactic(auto, using(crate::proofs::Sound::sound_basic))]
     pub fn basic(&mut self, basic: &Basic) -> Result<(), AllocError>
         requires sound { IsSound self.old }
         requires named { IsNamed self.old.made basic.now }
-        ensures after { OnOk result (self.new ≡ basics.after_basic self.old basic.now) }
+        ensures after { OnOk result (self.new ≡ steps.after_basic self.old basic.now) }
         ensures sound { OnOk result (IsSound self.new) }
-        ensures idle { OnOk result (running self.old.past ≡ None → running self.new.past ≡ None) }
     {
         self.do_basic(basic)?;
+        self.admit_all()?;
         Ok(())
     }
 
     fn do_basic(&mut self, basic: &Basic) -> Result<(), AllocError>
         requires sound { IsSound self.old }
         requires named { IsNamed self.old.made basic.now }
-        ensures { OnOk result (self.new ≡ basics.after_basic self.old basic.now) }
+        ensures { OnOk result (self.new ≡ steps.basic_done self.old basic.now) }
     {
         match basic {
             Basic::Write {
@@ -252,6 +294,37 @@ impl World {
                 snap,
                 damage,
             } => self.damage(*group, *osd, object, *snap, damage),
+            Basic::Begin { .. }
+            | Basic::Open { .. }
+            | Basic::Scan { .. }
+            | Basic::Take { .. }
+            | Basic::Close { .. } => self.do_scrub(basic),
+        }
+    }
+
+    // A step of a scrub.
+    fn do_scrub(&mut self, basic: &Basic) -> Result<(), AllocError>
+        requires sound { IsSound self.old }
+        requires named { IsNamed self.old.made basic.now }
+        requires scrub { steps.is_scrub basic.now ≡ true }
+        ensures { OnOk result (self.new ≡ steps.basic_done self.old basic.now) }
+    {
+        match basic {
+            Basic::Begin { group, kind } => {
+                self.begin_scrub(*group, *kind)?;
+                Ok(())
+            }
+            Basic::Open { group } => self.open(*group),
+            Basic::Scan { group, osd } => {
+                self.scan(*group, *osd)?;
+                Ok(())
+            }
+            Basic::Take { group, osd } => self.take(*group, *osd),
+            Basic::Close { group } => {
+                self.close(*group)?;
+                Ok(())
+            }
+            _ => unreachable!(),
         }
     }
 
@@ -268,8 +341,9 @@ impl World {
     }
 
     // A member pulls, applies until nothing waits, and tells.
+    #[tactic(auto, using(crate::proofs::Settles::applied_idle))]
     fn settle_member(&mut self, group: u32, osd: u32) -> Result<(), AllocError>
-        requires in_step { AreInStep self.old }
+        requires sound { IsSound self.old }
         requires member { is_member self.old.made osd ≡ true }
         ensures { OnOk result (self.new ≡ steps.member_settled self.old group osd) }
     {
@@ -293,17 +367,27 @@ impl World {
     }
 
     /// Does a step of a script. Where memory runs out a part of it may be done.
-    #[tactic(auto, using(crate::proofs::Sound::sound_step, crate::proofs::Idle::idle_step))]
+    #[tactic(auto, using(crate::proofs::Runs::sound_step))]
     pub fn step(&mut self, step: &Step) -> Result<(), AllocError>
         requires sound { IsSound self.old }
         requires named { IsNamedStep self.old.made step.now }
-        requires idle { running self.old.past ≡ None }
         ensures after { OnOk result (self.new ≡ steps.after_step self.old step.now) }
         ensures sound { OnOk result (IsSound self.new) }
-        ensures idle { OnOk result (running self.new.past ≡ None) }
     {
         self.do_step(step)?;
         Ok(())
+    }
+
+    fn do_step(&mut self, step: &Step) -> Result<(), AllocError>
+        requires sound { IsSound self.old }
+        requires named { IsNamedStep self.old.made step.now }
+        ensures { OnOk result (self.new ≡ steps.after_step self.old step.now) }
+    {
+        match step {
+            Step::Basic { basic } => self.basic(basic),
+            Step::Settle { group } => self.settle(*group),
+            Step::Sweep { group, kind } => self.sweep(*group, *kind),
+        }
     }
 
     /// Does the steps of a script, in order. Where memory runs out some of them are done.
@@ -311,7 +395,6 @@ impl World {
     pub fn run(&mut self, script: &[Step]) -> Result<(), AllocError>
         requires sound { IsSound self.old }
         requires named { AreNamed self.old.made script.now }
-        requires idle { running self.old.past ≡ None }
         ensures after { OnOk result (self.new ≡ steps.after_steps self.old script.now) }
         ensures sound { OnOk result (IsSound self.new) }
         ensures scrubbed { OnOk result (AreScrubbed self.new) }
@@ -320,31 +403,5 @@ impl World {
             self.step(step)?;
         }
         Ok(())
-    }
-
-    #[tactic(auto, using(crate::proofs::Sound::settled_sound))]
-    fn do_step(&mut self, step: &Step) -> Result<(), AllocError>
-        requires sound { IsSound self.old }
-        requires named { IsNamedStep self.old.made step.now }
-        ensures { OnOk result (self.new ≡ steps.after_step self.old step.now) }
-    {
-        match step {
-            Step::Basic { basic } => self.do_basic(basic),
-            Step::Settle { group } => self.settle(*group),
-            Step::Sweep { group, kind } => {
-                self.settle(*group)?;
-                self.sweep(*group, *kind)
-            }
-        }
-    }
-}
-
-// The answer of a line.
-fn answer_of(applied: Applied) -> ApplyAnswer
-    ensures { result ≡ basics.answer_said applied }
-{
-    match applied {
-        Applied::NotYet { applied } => ApplyAnswer::NotYet { applied },
-        Applied::Applied { number, drops } => ApplyAnswer::Applied { number, drops },
     }
 }

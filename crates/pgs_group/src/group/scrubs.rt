@@ -1,22 +1,24 @@
 //! The steps of a group's scrubs.
-ghost use Rattle.std.specs.Prelude.{◌≡◌, true, is_some, IfOk, OnOk, OnErr, Some, None};
+ghost use Rattle.std.specs.Prelude.{◌≡◌, ◌<◌, true, false, is_some, IfOk, OnOk, OnErr, Some, None};
 ghost use Rattle.pgs_chunk.specs.Positions.{Ascends};
 ghost use Rattle.pgs_map.specs.Entries.{AreInRange};
-ghost use Rattle.pgs_history.specs.Scrubs.{running, last_kind, is_deep};
-ghost use Rattle.pgs_history.specs.Answers.{begin_answer, open_answer, take_answer, close_answer, unclosed, found, next_chunk, primary};
+ghost use Rattle.pgs_history.specs.Scrubs.{running, last_kind, is_deep, fate, limit_now, is_firm};
+ghost use Rattle.pgs_history.specs.Answers.{begin_answer, open_answer, take_answer, close_answer, unclosed, told_of, found, next_chunk, primary};
 ghost use Rattle.pgs_history.specs.After.{after_begin, after_open, after_take, after_close};
-ghost use Rattle.pgs_history.specs.Legal.{IsLegal};
+ghost use Rattle.pgs_history.specs.Legal.{IsLegal, IsOfChunk};
+ghost use Rattle.pgs_history.specs.Parked.{is_admitting};
 ghost use Rattle.pgs_incons.specs.Kept.{AreOrdered};
 ghost use Rattle.pgs_group.specs.Steps.{IsNextChunk, close_told};
 
 use super::Group;
 use crate::close_told::{CloseTold, told_of};
 use crate::comparing::compare;
+use crate::limits_now::limit_of;
 use crate::next_chunk::NextChunk;
 use crate::taken::first_missing;
-use pgs_chunk::{Kind, limit_after, select};
+use pgs_chunk::{Kind, select};
 use pgs_compare::Report;
-use pgs_history::{BeginAnswer, Chunk, CloseAnswer, Event, OpenAnswer, TakeAnswer};
+use pgs_history::{BeginAnswer, Chunk, CloseAnswer, Event, Fate, OpenAnswer, TakeAnswer};
 use pgs_map::ScrubMap;
 use pgs_name::ObjectId;
 use pgs_range::Bound;
@@ -27,6 +29,7 @@ impl Group {
     /// Begins a scrub, unless one runs.
     #[tactic(auto, using(crate::proofs::Scrubs::begun_most))]
     pub fn begin(&mut self, kind: Kind) -> Result<BeginAnswer, AllocError>
+        requires idle { is_admitting self.old.past ≡ false }
         ensures answer { IfOk result (λ a. a ≡ begin_answer self.old.past) }
         ensures kept { OnOk result (self.new ≡ record self.old { past = after_begin self.old.past kind }) }
         ensures err { OnErr result (self.new ≡ self.old) }
@@ -42,6 +45,20 @@ impl Group {
         let answer = BeginAnswer::Began { serial };
         self.events.push_reserved(Event::Begin { kind, answer });
         Ok(answer)
+    }
+
+    // How many positions the next chunk may have.
+    fn limit_now(&self) -> u32
+        ensures { result ≡ limit_now self.now.made self.now.past }
+    {
+        limit_of(self.made.limits, self.scrubs.used)
+    }
+
+    // Whether the next chunk gives way to no write.
+    fn is_firm(&self) -> bool
+        ensures { result ≡ is_firm self.now.made self.now.past }
+    {
+        self.scrubs.used == u64::from(self.made.limits.preemptions)
     }
 
     /// Where and how the next chunk of the running scrub is to be opened. It adds no event.
@@ -62,7 +79,7 @@ impl Group {
         Ok(NextChunk::Next {
             primary: *primary,
             start,
-            limit: limit_after(&self.made.limits, 0),
+            limit: self.limit_now(),
         })
     }
 
@@ -72,7 +89,7 @@ impl Group {
         requires ascends { Ascends listed.now }
         ensures { IfOk result (λ chunk. chunk ≡ next_chunk self.now.made self.now.past serial listed.now) }
     {
-        let limit = limit_after(&self.made.limits, 0);
+        let limit = self.limit_now();
         let range = select(listed, &self.scrubs.start, limit)?;
         let version = self.log.newest_in(&range);
         Ok(Chunk {
@@ -81,12 +98,13 @@ impl Group {
             range,
             version,
             limit,
-            firm: 0 == self.made.limits.preemptions,
+            firm: self.is_firm(),
         })
     }
 
     /// Opens a chunk of the running scrub, unless one is open. The positions are the primary's, from the chunk's start on.
     pub fn open(&mut self, serial: u64, listed: Items<ObjectId>) -> Result<OpenAnswer, AllocError>
+        requires idle { is_admitting self.old.past ≡ false }
         requires running { running self.old.past ≡ Some serial }
         requires ascends { Ascends listed }
         ensures answer { IfOk result (λ a. a ≡ open_answer self.old.made self.old.past serial listed) }
@@ -119,7 +137,9 @@ impl Group {
 
     /// Takes a member's map of a chunk, where that is open.
     pub fn take(&mut self, place: u64, map: ScrubMap) -> Result<TakeAnswer, AllocError>
+        requires idle { is_admitting self.old.past ≡ false }
         requires in_order { AreInRange map.range map.entries }
+        requires of_chunk { IsOfChunk self.old.past map }
         ensures answer { IfOk result (λ a. a ≡ take_answer self.old.past map) }
         ensures kept { OnOk result (self.new ≡ record self.old { past = after_take self.old.past place map }) }
         ensures err { OnErr result (self.new ≡ self.old) }
@@ -132,6 +152,18 @@ impl Group {
         Ok(answer)
     }
 
+    // What is told of a chunk that isn't open any more.
+    fn ended(&self, chunk: u64) -> CloseAnswer
+        requires { 0 < chunk }
+        ensures { result ≡ told_of (fate self.now.past chunk) }
+    {
+        match self.fates.get((chunk - 1) as usize) {
+            Some(Fate::Preempted { request }) => CloseAnswer::Preempted { request: *request },
+            Some(Fate::Closed) => CloseAnswer::ClosedBefore,
+            None => CloseAnswer::ClosedBefore,
+        }
+    }
+
     // Why a chunk isn't closed, if it isn't.
     #[tactic(auto, unfolding(pgs_history::specs::Answers::unclosed))]
     fn not_closed(&self, chunk: u64) -> Option<CloseAnswer>
@@ -141,7 +173,7 @@ impl Group {
             return Some(CloseAnswer::NoChunk);
         }
         if !self.scrubs.is_open(chunk) {
-            return Some(CloseAnswer::ClosedBefore);
+            return Some(self.ended(chunk));
         }
         match first_missing(self.events.as_slice(), chunk, self.made.members.as_slice()) {
             Some(osd) => Some(CloseAnswer::NotYet { osd }),
@@ -173,11 +205,13 @@ impl Group {
         ensures err { OnErr result (self.new ≡ self.old) }
     {
         self.events.reserve(1)?;
+        self.fates.reserve(1)?;
         let report = self.found(chunk)?;
         self.scrubs.keep(&report)?;
         let findings = report.found.len() as u64;
         let snaps = report.snaps.len() as u64;
         let completes = self.scrubs.close();
+        self.fates.push_reserved(Fate::Closed);
         self.events.push_reserved(Event::Close {
             chunk,
             answer: CloseAnswer::Closed { report, completes },
@@ -190,7 +224,9 @@ impl Group {
     }
 
     /// Closes a chunk, where it is open and no acting OSD's map of it is missing.
+    #[tactic(auto, using(pgs_history::proofs::Legal::legal_close))]
     pub fn close(&mut self, chunk: u64) -> Result<CloseTold, AllocError>
+        requires idle { is_admitting self.old.past ≡ false }
         ensures answer { IfOk result (λ told. told ≡ close_told (close_answer self.old.made self.old.past chunk)) }
         ensures kept { OnOk result (self.new ≡ record self.old { past = after_close self.old.made self.old.past chunk }) }
         ensures err { OnErr result (self.new ≡ self.old) }

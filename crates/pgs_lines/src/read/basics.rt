@@ -1,11 +1,12 @@
 ghost use Rattle.std.specs.Prelude.{◌≡◌};
 ghost use Rattle.std.specs.Option.{option_copied};
-ghost use Rattle.pgs_words.specs.Forms.{Gives, left};
+ghost use Rattle.pgs_words.specs.Forms.{Gives, left, last};
+ghost use Rattle.pgs_words.specs.Fields as fields;
 ghost use Rattle.pgs_lines.specs.Basics as basics;
 
 use super::contexts::context;
 use super::damages::damage;
-use super::objects::snap;
+use super::objects::{kind, snap};
 use super::ops::op;
 use crate::basic::Basic;
 use crate::object::Object;
@@ -56,6 +57,24 @@ fn member(words: Option<&[u8]>) -> Result<(u32, u32), ReadError>
     Ok((group, osd))
 }
 
+// G, the last word.
+fn only(words: Option<&[u8]>) -> Result<u32, ReadError>
+    ensures { Gives (λ x. x) result ((last fields.number).read (left 32 (option_copied words.entry))) }
+{
+    let (group, words) = number(words)?;
+    ended(words)?;
+    Ok(group)
+}
+
+fn begin(words: Option<&[u8]>) -> Result<Basic, ReadError>
+    ensures { Gives (λ x. x) result (basics.begin_read (left 32 (option_copied words.entry))) }
+{
+    let (group, words) = number(words)?;
+    let (kind, words) = kind(words)?;
+    ended(words)?;
+    Ok(Basic::Begin { group, kind })
+}
+
 fn damage_step(alloc: Global, words: Option<&[u8]>) -> Result<Basic, ReadError>
     ensures { Gives (λ x. x) result (basics.damage_read (left 32 (option_copied words.entry))) }
 {
@@ -74,6 +93,33 @@ fn damage_step(alloc: Global, words: Option<&[u8]>) -> Result<Basic, ReadError>
         snap,
         damage,
     })
+}
+
+// The step of a scrub that a first word and the words behind it spell.
+#[tactic(auto, unfolding(crate::specs::Basics::scrub_rows, crate::specs::Basics::scrub_read))]
+fn scrub_in(word: &[u8], words: Option<&[u8]>) -> Result<Basic, ReadError>
+    ensures { Gives (λ x. x) result (basics.scrub_read word.now (left 32 (option_copied words.entry))) }
+{
+    if is_word(word, b"begin") {
+        return begin(words);
+    }
+    if is_word(word, b"open") {
+        let group = only(words)?;
+        return Ok(Basic::Open { group });
+    }
+    if is_word(word, b"scan") {
+        let (group, osd) = member(words)?;
+        return Ok(Basic::Scan { group, osd });
+    }
+    if is_word(word, b"take") {
+        let (group, osd) = member(words)?;
+        return Ok(Basic::Take { group, osd });
+    }
+    if is_word(word, b"close") {
+        let group = only(words)?;
+        return Ok(Basic::Close { group });
+    }
+    Err(ReadError::Outside)
 }
 
 /// The step that a first word and the words behind it spell, where it does one thing.
@@ -102,5 +148,5 @@ pub fn basic_in(alloc: Global, word: &[u8], words: Option<&[u8]>) -> Result<Basi
     if is_word(word, b"damage") {
         return damage_step(alloc, words);
     }
-    Err(ReadError::Outside)
+    scrub_in(word, words)
 }

@@ -40,6 +40,11 @@ fn lines(rt: HostRuntime) -> Result<(), Fail> {
         b"tell 0 1".as_slice(),
         b"sweep 0 deep".as_slice(),
         b"sweep 0 shallow".as_slice(),
+        b"begin 0 shallow".as_slice(),
+        b"open 0".as_slice(),
+        b"scan 0 1".as_slice(),
+        b"take 0 1".as_slice(),
+        b"close 0".as_slice(),
         b"end".as_slice(),
     ];
     for line in good {
@@ -66,6 +71,11 @@ fn lines(rt: HostRuntime) -> Result<(), Fail> {
         b"damage 0 2 - - a head flip 0 256".as_slice(),
         b"damage 0 2 - - a head flip 0 0".as_slice(),
         b"sweep 0  deep".as_slice(),
+        b"begin 0".as_slice(),
+        b"open 0 1".as_slice(),
+        b"scan 0".as_slice(),
+        b"take 0 1 2".as_slice(),
+        b"close".as_slice(),
     ];
     for line in bad {
         assert!(rt; !is_read(rt.alloc(), line));

@@ -1,6 +1,7 @@
 use super::printing::says;
-use pgs_lines::{Basic, Context, Damage, DamageAnswer, Done, Line, Object, Snap, Step, line_in};
-use pgs_request::{Op, Version, WriteAnswer};
+use pgs_done::{DamageAnswer, Done, WriteAnswer};
+use pgs_lines::{Basic, Context, Damage, Line, Object, Snap, Step, line_in};
+use pgs_request::{Op, Version};
 use std::alloc::{AllocError, Global};
 use std::test::Fail;
 
@@ -20,7 +21,10 @@ fn written(alloc: Global, object: &Object, context: &Context, op: &Op) -> Result
         object,
         context,
         op,
-        answer: WriteAnswer::Accepted { version: FIRST },
+        answer: WriteAnswer::Accepted {
+            version: FIRST,
+            preempts: None,
+        },
     })
 }
 

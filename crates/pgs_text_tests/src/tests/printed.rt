@@ -1,9 +1,8 @@
 use super::printing::{object, says};
 use pgs_bytes::Bytes;
-use pgs_lines::{ApplyAnswer, Damage, DamageAnswer, Done, Snap};
-use pgs_request::{
-    CollectAnswer, Declined, Op, Payload, Refusal, SnapContext, Snaps, Version, WriteAnswer,
-};
+use pgs_done::{ApplyAnswer, Bound, CollectAnswer, DamageAnswer, Done, Range, WriteAnswer};
+use pgs_lines::{Damage, Object, Snap};
+use pgs_request::{Declined, Op, Payload, Refusal, SnapContext, Snaps, Version};
 use std::alloc::{AllocError, Global};
 use std::test::Fail;
 
@@ -12,18 +11,29 @@ const FIRST: Version = Version {
     number: 1,
 };
 
-fn write(alloc: Global, payload: Payload, answer: WriteAnswer) -> Result<Done, AllocError> {
-    Ok(Done::Write {
+fn written(alloc: Global, object: Object, payload: Payload, answer: WriteAnswer) -> Done {
+    Done::Write {
         client: 7,
         serial: 2,
-        object: object(alloc, b"a")?,
+        object,
         context: SnapContext {
             seq: 0,
             snaps: Snaps::new(alloc),
         },
         op: Op::Full { payload },
         answer,
-    })
+    }
+}
+
+fn write(alloc: Global, payload: Payload, answer: WriteAnswer) -> Result<Done, AllocError> {
+    match object(alloc, b"a") {
+        Ok(object) => Ok(written(alloc, object, payload, answer)),
+        Err(error) => {
+            drop(payload);
+            drop(answer);
+            Err(error)
+        }
+    }
 }
 
 fn refused(refusal: Refusal) -> WriteAnswer {
@@ -44,7 +54,10 @@ fn writes(rt: HostRuntime) -> Result<(), Fail> {
     let done = write(
         alloc,
         text(alloc)?,
-        WriteAnswer::Accepted { version: FIRST },
+        WriteAnswer::Accepted {
+            version: FIRST,
+            preempts: None,
+        },
     )?;
     assert!(rt;
         says(
@@ -53,10 +66,8 @@ fn writes(rt: HostRuntime) -> Result<(), Fail> {
             b"write 7 2 - - a - full text:x:y : accepted 4'1"
         )?
     );
-    let again = WriteAnswer::Declined {
-        declined: Declined::Repeat { version: FIRST },
-    };
-    let done = write(alloc, text(alloc)?, again)?;
+    let declined = Declined::Repeat { version: FIRST };
+    let done = write(alloc, text(alloc)?, WriteAnswer::Declined { declined })?;
     assert!(rt; says(alloc, done, b"write 7 2 - - a - full text:x:y : repeat 4'1")?);
     let fill = Payload::Fill {
         count: 4_294_967_295,
@@ -116,6 +127,75 @@ fn refused_writes(rt: HostRuntime) -> Result<(), Fail> {
     Ok(())
 }
 
+fn admit(answer: WriteAnswer) -> Done {
+    Done::Admit {
+        client: 7,
+        serial: 2,
+        answer,
+    }
+}
+
+// A range from the first object up to the object `b`.
+fn range(alloc: Global) -> Result<Range, AllocError> {
+    Ok(Range {
+        from: Bound::Min,
+        to: Bound::At {
+            object: object(alloc, b"b")?,
+        },
+    })
+}
+
+fn parked(alloc: Global) -> Result<Done, AllocError> {
+    let range = range(alloc)?;
+    let fill = Payload::Fill { count: 9, byte: 0 };
+    write(alloc, fill, WriteAnswer::Parked { range })
+}
+
+#[test]
+fn parked_writes(rt: HostRuntime) -> Result<(), Fail> {
+    let alloc = rt.alloc();
+    assert!(rt;
+        says(
+            alloc,
+            parked(alloc)?,
+            b"write 7 2 - - a - full fill:9:00 : parked from min to at - - b"
+        )?
+    );
+    let fill = Payload::Fill { count: 9, byte: 0 };
+    let done = write(alloc, fill, WriteAnswer::QueueFull { count: 1_024 })?;
+    assert!(rt;
+        says(
+            alloc,
+            done,
+            b"write 7 2 - - a - full fill:9:00 : queue-full 1024"
+        )?
+    );
+    Ok(())
+}
+
+fn accepted(preempts: Option<u64>) -> Done {
+    admit(WriteAnswer::Accepted {
+        version: FIRST,
+        preempts,
+    })
+}
+
+#[test]
+fn admitted_writes(rt: HostRuntime) -> Result<(), Fail> {
+    let alloc = rt.alloc();
+    assert!(rt;
+        says(
+            alloc,
+            accepted(Some(3)),
+            b"admit 7 2 : accepted 4'1 preempts 3"
+        )?
+    );
+    assert!(rt; says(alloc, accepted(None), b"admit 7 2 : accepted 4'1")?);
+    let full = refused(Refusal::LogFull { bytes: 9 });
+    assert!(rt; says(alloc, admit(full), b"admit 7 2 : log-full 9")?);
+    Ok(())
+}
+
 #[test]
 fn collects(rt: HostRuntime) -> Result<(), Fail> {
     let alloc = rt.alloc();
@@ -131,6 +211,22 @@ fn collects(rt: HostRuntime) -> Result<(), Fail> {
         (
             CollectAnswer::Unknown,
             b"collect 0 7 2 : unknown".as_slice(),
+        ),
+        (
+            CollectAnswer::StillParked { chunk: 3 },
+            b"collect 0 7 2 : still-parked 3".as_slice(),
+        ),
+        (
+            CollectAnswer::Refused {
+                refusal: Refusal::StoreFull { bytes: 9 },
+            },
+            b"collect 0 7 2 : refused store-full 9".as_slice(),
+        ),
+        (
+            CollectAnswer::Refused {
+                refusal: Refusal::NoSuchObject,
+            },
+            b"collect 0 7 2 : refused no-such-object".as_slice(),
         ),
     ];
     for (answer, wanted) in rows {
@@ -183,16 +279,21 @@ fn applies(rt: HostRuntime) -> Result<(), Fail> {
     Ok(())
 }
 
-#[test]
-fn others(rt: HostRuntime) -> Result<(), Fail> {
-    let alloc = rt.alloc();
-    let done = Done::Pull {
+fn pull(asked: Option<u64>) -> Done {
+    Done::Pull {
         group: 0,
         osd: 5,
         from: 1,
         to: 3,
-    };
-    assert!(rt; says(alloc, done, b"pull 0 5 : pulled 1 3")?);
+        asked,
+    }
+}
+
+#[test]
+fn others(rt: HostRuntime) -> Result<(), Fail> {
+    let alloc = rt.alloc();
+    assert!(rt; says(alloc, pull(None), b"pull 0 5 : pulled 1 3")?);
+    assert!(rt; says(alloc, pull(Some(2)), b"pull 0 5 : pulled 1 3 asked 2")?);
     let done = Done::Tell {
         group: 0,
         osd: 5,
@@ -214,5 +315,14 @@ fn others(rt: HostRuntime) -> Result<(), Fail> {
             b"damage 0 5 - - : head flip 9 255 : shard-full 67108865"
         )?
     );
+    let done = Done::Damage {
+        group: 0,
+        osd: 5,
+        object: object(alloc, b"a")?,
+        snap: Snap::Head,
+        damage: Damage::Lose,
+        answer: DamageAnswer::BeingRead,
+    };
+    assert!(rt; says(alloc, done, b"damage 0 5 - - a head lose : being-read")?);
     Ok(())
 }

@@ -1,6 +1,7 @@
 //! What the tests of printed lines share.
 use pgs_bytes::Bytes;
-use pgs_lines::{Done, Object, print};
+use pgs_done::{Done, print};
+use pgs_lines::Object;
 use std::alloc::{AllocError, Global};
 
 // Whether this is printed.

@@ -101,6 +101,15 @@ fn steps(rt: HostRuntime) -> Result<(), Fail> {
             "Steps 2",
         ),
         (b"damage 0 1 - - a head flip 0 1\n".as_slice(), "BadLine 6"),
+        (
+            b"begin 0 deep\nopen 0\nscan 0 2\ntake 0 2\nclose 0\nend\n".as_slice(),
+            "Steps 5",
+        ),
+        (b"begin 1 deep\n".as_slice(), "BadLine 6"),
+        (b"open 1\n".as_slice(), "BadLine 6"),
+        (b"scan 0 1\n".as_slice(), "BadLine 6"),
+        (b"take 0 1\n".as_slice(), "BadLine 6"),
+        (b"close 1\n".as_slice(), "BadLine 6"),
     ];
     for (rest, wanted) in rows {
         let answer = followed(rt.alloc(), rest)?;

@@ -1,6 +1,7 @@
 use super::printing::says;
 use pgs_bytes::Bytes;
-use pgs_lines::{BeginAnswer, Bound, CloseAnswer, Done, Kind, Object, OpenAnswer, Range};
+use pgs_done::{BeginAnswer, Bound, CloseAnswer, Done, OpenAnswer, Range};
+use pgs_lines::{Kind, Object};
 use std::alloc::{AllocError, Global};
 use std::test::Fail;
 
@@ -129,6 +130,13 @@ fn closes(rt: HostRuntime) -> Result<(), Fail> {
             b"close 0 : closed-before 3".as_slice(),
         ),
         (CloseAnswer::NoChunk, b"close 0 : no-chunk".as_slice()),
+        (
+            CloseAnswer::Preempted {
+                client: 7,
+                serial: 2,
+            },
+            b"close 0 : preempted 7 2".as_slice(),
+        ),
     ];
     for (answer, wanted) in rows {
         let done = Done::Close { group: 0, answer };

@@ -1,4 +1,4 @@
-//! Writes, logs and listings, and the limits as rows of tables.
+//! Writes, growths, logs and listings.
 mod growths;
 mod listings;
 mod logs;

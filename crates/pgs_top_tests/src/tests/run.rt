@@ -1,3 +1,6 @@
-//! Whole runs of the program, by the calls that it makes.
+//! Whole runs: scripts, with all that they print or the end of it.
+mod queues;
+mod running;
 mod runs;
+mod scrubs;
 mod settings;

@@ -1,25 +1,42 @@
 //! The steps of a scrub.
-ghost use Rattle.std.specs.Prelude.{◌≡◌, suc, None, Some, length, IfOk, OnOk};
-ghost use Rattle.pgs_map.specs.Entries.{AreInRange};
-ghost use Rattle.pgs_history.specs.Scrubs.{running, open_chunk};
+ghost use Rattle.std.specs.Prelude.{◌≡◌, ◌∷◌, false, None, Some, true, IfOk, IfSome, OnOk};
+ghost use Rattle.pgs_done.specs.declared.done.Done.TheVariants.{Take};
+ghost use Rattle.pgs_done.specs.declared.take_answer.TakeAnswer.TheVariants.{NotDone};
+ghost use Rattle.pgs_history.specs.Scrubs.{running};
 ghost use Rattle.pgs_history.specs.Answers.{begin_answer};
+ghost use Rattle.pgs_history.specs.Parked.{is_admitting};
+ghost use Rattle.pgs_shard.specs.Scans.{IsHandedInRange};
+ghost use Rattle.pgs_shards.specs.Scans.{hand_in, with_handed};
+ghost use Rattle.pgs_world.specs.Counts.{is_member};
 ghost use Rattle.pgs_world.specs.Scrubs as scrubs;
+ghost use Rattle.pgs_world.specs.Sweeps as sweeps;
 ghost use Rattle.pgs_world.specs.Sound.{IsSound};
 
 use super::World;
-use crate::saying::{begin_said, close_said, kind_of, open_said};
-use pgs_crc::Tables;
+use crate::naming::kind_of;
+use crate::saying::{begin_said, close_said, open_said, take_said};
+use crate::scans::is_further;
+use pgs_done::{Done, OpenAnswer, TakeAnswer};
 use pgs_group::NextChunk;
-use pgs_history::{BeginAnswer, Chunk};
-use pgs_lines::{Done, Kind, OpenAnswer};
-use pgs_map::ScrubMap;
+use pgs_history::BeginAnswer;
+use pgs_lines::Kind;
 use pgs_name::ObjectId;
+use pgs_shard::{Deposit, Handed};
 use sqlite_items::Items;
 use std::alloc::AllocError;
 
+// That an OSD had no map.
+fn not_done(group: u32, osd: u32) -> Done
+    ensures { result ≡ Take group osd NotDone }
+{
+    let answer = TakeAnswer::NotDone;
+    Done::Take { group, osd, answer }
+}
+
 impl World {
     // A scrub begins, unless one runs.
-    fn begin_scrub(&mut self, group: u32, kind: Kind) -> Result<BeginAnswer, AllocError>
+    pub(super) fn begin_scrub(&mut self, group: u32, kind: Kind) -> Result<BeginAnswer, AllocError>
+        requires idle { is_admitting self.old.past ≡ false }
         ensures answer { IfOk result (λ a. a ≡ begin_answer self.old.past) }
         ensures after { OnOk result (self.new ≡ scrubs.after_beginning self.old group kind) }
     {
@@ -34,7 +51,7 @@ impl World {
     }
 
     // The primary's positions from where the next chunk begins: none where a chunk is open.
-    #[tactic(auto, using(crate::proofs::Scrubs::listings))]
+    #[tactic(auto, using(crate::proofs::Opens::listings))]
     fn listed(&mut self, serial: u64) -> Result<Items<ObjectId>, AllocError>
         requires sound { IsSound self.old }
         requires running { running self.old.past ≡ Some serial }
@@ -52,7 +69,7 @@ impl World {
     }
 
     // A chunk of the scrub that runs is opened.
-    #[tactic(auto, using(crate::proofs::Scrubs::listed_ascends))]
+    #[tactic(auto, using(crate::proofs::Opens::listed_ascends))]
     fn open_of(&mut self, serial: u64) -> Result<OpenAnswer, AllocError>
         requires sound { IsSound self.old }
         requires running { running self.old.past ≡ Some serial }
@@ -76,7 +93,8 @@ impl World {
         }
     }
 
-    fn open(&mut self, group: u32) -> Result<(), AllocError>
+    // A chunk is opened, if a scrub runs.
+    pub(super) fn open(&mut self, group: u32) -> Result<(), AllocError>
         requires sound { IsSound self.old }
         ensures { OnOk result (self.new ≡ scrubs.after_opening self.old group) }
     {
@@ -85,67 +103,57 @@ impl World {
         Ok(())
     }
 
-    // The map of a chunk that a member makes at once of what it stores.
-    fn map(&self, osd: u32, chunk: Chunk) -> Result<ScrubMap, AllocError>
-        ensures map { IfOk result (λ m. m ≡ scrubs.map_of self.now osd chunk) }
-        ensures in_range { IfOk result (λ m. AreInRange m.range m.entries) }
+    // A member hands what its scan ended with, and the group takes the map. Where memory runs out the map may be lost.
+    #[tactic(auto, using(crate::proofs::Takes::of_chunk, crate::proofs::Takes::none_taken))]
+    pub(super) fn take(&mut self, group: u32, osd: u32) -> Result<(), AllocError>
+        requires sound { IsSound self.old }
+        requires member { is_member self.old.made osd ≡ true }
+        ensures { OnOk result (self.new ≡ scrubs.after_taking self.old group osd) }
     {
-        let tables = Tables::make(self.alloc)?;
-        let deep = self.group.is_deep();
-        let entries = self
-            .shards
-            .entries(self.alloc, &tables, osd, &chunk.range, deep)?;
-        Ok(ScrubMap {
-            osd,
-            serial: chunk.serial,
-            chunk: chunk.number,
-            needed: chunk.version,
-            applied: self.shards.applied(osd),
-            range: chunk.range,
-            entries,
-        })
-    }
-
-    // The chunk that is open.
-    fn open_chunk(&self) -> Result<Option<Chunk>, AllocError>
-        ensures { IfOk result (λ chunk. chunk ≡ open_chunk self.now.past) }
-    {
-        match self.group.open_chunk() {
-            Some(chunk) => {
-                let chunk = chunk.clone()?;
-                Ok(Some(chunk))
-            }
-            None => Ok(None),
-        }
-    }
-
-    // A member gives its map of the open chunk, if there is one.
-    fn take(&mut self, osd: u32) -> Result<(), AllocError>
-        ensures { OnOk result (self.new ≡ scrubs.after_taking self.old osd) }
-    {
-        let Some(chunk) = self.open_chunk()? else {
-            return Ok(());
+        let Some(deposit) = self.hand(osd) else {
+            return self.keep(not_done(group, osd));
         };
-        let map = self.map(osd, chunk)?;
-        self.group.take(self.shards.events(osd), map)?;
-        Ok(())
-    }
-
-    // Each acting OSD gives its map.
-    #[tactic(auto, using(crate::proofs::Scrubs::takes))]
-    fn take_all(&mut self) -> Result<(), AllocError>
-        ensures { OnOk result (self.new ≡ scrubs.all_taken self.old self.old.made.members) }
-    {
-        let members = Items::from_slice(self.alloc, self.group.made().members.as_slice())?;
-        for osd in members.as_slice() {
-            self.take(*osd)?;
+        let Deposit {
+            applied,
+            place,
+            found,
+            ..
+        } = deposit;
+        match found {
+            Handed::Map { map } => {
+                let taken = self.group.take(place, map)?;
+                let answer = take_said(applied, place, taken);
+                self.keep(Done::Take { group, osd, answer })
+            }
+            Handed::ListFault { count } => {
+                let answer = TakeAnswer::Fault { count };
+                self.keep(Done::Take { group, osd, answer })
+            }
         }
+    }
+
+    // What a member's scan ended with, if it ended with something.
+    fn hand(&mut self, osd: u32) -> Option<Deposit>
+        ensures handed { result ≡ hand_in self.old.members osd }
+        ensures kept { self.new ≡ record self.old { members = with_handed osd self.old.members } }
+        ensures in_range { IfSome result IsHandedInRange }
+    {
+        self.shards.hand(osd)
+    }
+
+    // Something was done.
+    fn keep(&mut self, done: Done) -> Result<(), AllocError>
+        ensures { OnOk result (self.new ≡ record self.old { done = done ∷ self.old.done }) }
+    {
+        self.done.push(done)?;
         Ok(())
     }
 
-    // The chunk that was opened last is closed.
-    fn close(&mut self, group: u32) -> Result<(), AllocError>
-        ensures { OnOk result (self.new ≡ scrubs.after_closing self.old group) }
+    // The chunk that was opened last is closed. It answers whether a further one follows.
+    pub(super) fn close(&mut self, group: u32) -> Result<bool, AllocError>
+        requires idle { is_admitting self.old.past ≡ false }
+        ensures further { IfOk result (λ b. b ≡ sweeps.is_further (sweeps.close_of self.old)) }
+        ensures after { OnOk result (self.new ≡ scrubs.after_closing self.old group) }
     {
         self.done.reserve(1)?;
         let chunk = self.group.last_chunk();
@@ -154,42 +162,6 @@ impl World {
             group,
             answer: close_said(chunk, told),
         });
-        Ok(())
-    }
-
-    // One chunk: it is opened, each acting OSD gives its map, and it is closed.
-    #[tactic(auto, using(crate::proofs::Scrubs::opening_made))]
-    fn scrub_chunk(&mut self, group: u32) -> Result<(), AllocError>
-        requires sound { IsSound self.old }
-        ensures { OnOk result (self.new ≡ scrubs.chunk_done self.old group) }
-    {
-        self.open(group)?;
-        self.take_all()?;
-        self.close(group)
-    }
-
-    // Chunk after chunk until the scrub is complete.
-    #[tactic(auto, using(crate::proofs::Walks::walking))]
-    fn walk(&mut self, group: u32) -> Result<(), AllocError>
-        requires sound { IsSound self.old }
-        requires none { open_chunk self.old.past ≡ None }
-        ensures { OnOk result (self.new ≡ scrubs.walked (suc (length (scrubs.held self.old))) self.old group) }
-    {
-        while self.group.running().is_some() {
-            self.scrub_chunk(group)?;
-        }
-        Ok(())
-    }
-
-    /// A scrub begins, unless one runs, and goes on until it is complete.
-    #[tactic(auto, using(crate::proofs::Walks::sweeping))]
-    pub(super) fn sweep(&mut self, group: u32, kind: Kind) -> Result<(), AllocError>
-        requires sound { IsSound self.old }
-        ensures { OnOk result (self.new ≡ scrubs.swept self.old group kind) }
-    {
-        match self.begin_scrub(group, kind)? {
-            BeginAnswer::Busy { .. } => Ok(()),
-            BeginAnswer::Began { .. } => self.walk(group),
-        }
+        Ok(is_further(told))
     }
 }

@@ -1,6 +1,7 @@
 use crate::tests::group::making::{REQUEST, made, write};
 use pgs_group::{Answer, Counts, Group, Step};
-use pgs_request::{CollectAnswer, Version};
+use pgs_history::CollectAnswer;
+use pgs_request::Version;
 use std::alloc::{AllocError, Global};
 use std::test::Fail;
 
@@ -18,48 +19,67 @@ fn written(alloc: Global) -> Result<Group, AllocError> {
     Ok(group)
 }
 
-// What a client is answered where a member pulled, and so many told.
-fn collected(alloc: Global, told: u32) -> Result<CollectAnswer, AllocError> {
-    let mut group = written(alloc)?;
-    if 0 < told {
-        group.tell(2, 1)?;
+// A member that applied the write tells of it, where no write waits.
+fn tell(group: &mut Group, osd: u32) -> Result<(), AllocError> {
+    if group.is_admitting() {
+        return Ok(());
     }
-    if 1 < told {
-        group.tell(0, 1)?;
+    group.tell(osd, 1)?;
+    Ok(())
+}
+
+fn collect(group: &mut Group) -> Result<CollectAnswer, AllocError> {
+    if group.is_admitting() {
+        return Ok(CollectAnswer::Unknown);
     }
     group.collect(REQUEST)
+}
+
+// What a client is answered where these members told.
+fn collected(alloc: Global, osds: &[u32]) -> Result<CollectAnswer, AllocError> {
+    let mut group = written(alloc)?;
+    for osd in osds {
+        tell(&mut group, *osd)?;
+    }
+    collect(&mut group)
 }
 
 #[test]
 fn acknowledged_once_all_told(rt: HostRuntime) -> Result<(), Fail> {
     let alloc = rt.alloc();
-    assert!(rt; collected(alloc, 0)? == CollectAnswer::NotYet { osd: 2, told: 0 });
-    assert!(rt; collected(alloc, 1)? == CollectAnswer::NotYet { osd: 0, told: 0 });
-    assert!(rt; collected(alloc, 2)? == CollectAnswer::Acked { version: VERSION });
+    assert!(rt; collected(alloc, &[])? == CollectAnswer::NotYet { osd: 2, told: 0 });
+    assert!(rt; collected(alloc, &[2])? == CollectAnswer::NotYet { osd: 0, told: 0 });
+    assert!(rt; collected(alloc, &[2, 0])? == CollectAnswer::Acked { version: VERSION });
     Ok(())
 }
 
 // How many items a member is given that pulls, by a step.
-fn pulled(alloc: Global) -> Result<usize, AllocError> {
-    let mut group = written(alloc)?;
+fn pull(group: &mut Group) -> Result<usize, AllocError> {
+    if group.is_admitting() {
+        return Ok(9);
+    }
     match group.step(Step::Pull { osd: 0 })? {
         Answer::Pull { pulled } => Ok(pulled.items.len()),
         _ => Ok(9),
     }
 }
 
-// How many members a group has, and how many events.
-fn seen(alloc: Global) -> Result<(usize, usize), AllocError> {
-    let group = written(alloc)?;
-    let members = group.made().members.len();
-    Ok((members, group.into_events().len()))
+// Whether no scrub began, and nothing was found.
+fn is_plain(group: &Group) -> bool {
+    group.open_chunk().is_none() && !group.is_deep() && group.findings().list().is_empty()
+}
+
+// How many items are pulled, whether the group is plain, and how many events it has then.
+fn seen(alloc: Global) -> Result<(usize, bool, usize), AllocError> {
+    let mut group = written(alloc)?;
+    let pulled = pull(&mut group)?;
+    let is_plain = is_plain(&group);
+    Ok((pulled, is_plain, group.into_events().len()))
 }
 
 #[test]
 fn what_a_group_shows(rt: HostRuntime) -> Result<(), Fail> {
-    let alloc = rt.alloc();
-    assert_eq!(rt; pulled(alloc)?, 1);
-    assert_eq!(rt; seen(alloc)?, (2, 1));
+    assert_eq!(rt; seen(rt.alloc())?, (1, true, 2));
     Ok(())
 }
 

@@ -37,18 +37,13 @@ pub const REQUEST: ReqId = ReqId {
 
 // A write of three bytes, of a client that knows of no snapshot.
 pub fn write(alloc: Global) -> Result<Write, AllocError> {
-    let snaps = Snaps::new(alloc);
-    write_with(alloc, SnapContext { seq: 0, snaps })
-}
-
-// The same of a client that knows of these snapshots.
-pub fn write_with(alloc: Global, context: SnapContext) -> Result<Write, AllocError> {
     let family = family(alloc)?;
     let payload = Payload::Fill { count: 3, byte: 97 };
+    let snaps = Snaps::new(alloc);
     Ok(Write {
         id: REQUEST,
         family,
-        context,
+        context: SnapContext { seq: 0, snaps },
         op: Op::Full { payload },
     })
 }

@@ -8,11 +8,11 @@ use std::alloc::{AllocError, Global};
 use std::test::Fail;
 
 fn begun(alloc: Global) -> Result<Shards, AllocError> {
-    Shards::new(alloc, &[2, 0])
+    Shards::new(alloc, &[2, 0], 16)
 }
 
-// The first item, for one OSD.
-fn fed(alloc: Global) -> Result<(u64, u64, u64), AllocError> {
+// The first item, for one OSD: how many items waited, which ones are applied, and how many events that OSD has.
+fn fed(alloc: Global) -> Result<(u64, u64, u64, u64), AllocError> {
     let mut shards = begun(alloc)?;
     let item = Item {
         number: 1,
@@ -25,12 +25,17 @@ fn fed(alloc: Global) -> Result<(u64, u64, u64), AllocError> {
     shards.feed(0, 0, items, None)?;
     let waiting = shards.waiting(0);
     shards.apply_next(0)?;
-    Ok((waiting, shards.applied(0), shards.applied(2)))
+    Ok((
+        waiting,
+        shards.applied(0),
+        shards.applied(2),
+        shards.events(0),
+    ))
 }
 
 #[test]
 fn an_item_of_one_member(rt: HostRuntime) -> Result<(), Fail> {
-    assert_eq!(rt; fed(rt.alloc())?, (1, 1, 0));
+    assert_eq!(rt; fed(rt.alloc())?, (1, 1, 0, 2));
     Ok(())
 }
 

@@ -7,7 +7,7 @@ use std::test::Fail;
 // How many things are done by a single step.
 fn collected(alloc: Global) -> Result<usize, AllocError> {
     let made = made(alloc)?;
-    let mut world = World::new(alloc, made)?;
+    let mut world = World::new(alloc, made, 16)?;
     let collect = Basic::Collect {
         group: 0,
         client: 1,
@@ -19,10 +19,10 @@ fn collected(alloc: Global) -> Result<usize, AllocError> {
     Ok(world.done().len())
 }
 
-// How many things are done by a sweep of two members, which settles them.
+// How many things are done by a sweep of two members that store nothing.
 fn swept(alloc: Global) -> Result<usize, AllocError> {
     let made = made(alloc)?;
-    let mut world = World::new(alloc, made)?;
+    let mut world = World::new(alloc, made, 16)?;
     let kind = Kind::Deep;
     let sweep = Step::Sweep { group: 0, kind };
     let result = world.step(&sweep);

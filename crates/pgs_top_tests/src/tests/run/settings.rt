@@ -1,49 +1,95 @@
-use pgs_bytes::Bytes;
-use pgs_chunk::{Limits, Settings};
-use pgs_edge::{MemSink, MemSource};
-use pgs_top::replay;
-use std::alloc::{AllocError, Global};
+use crate::tests::run::running::{one_by_one, replayed};
 use std::test::Fail;
 
-// Two objects under one key, in chunks of one position.
-const SCRIPT: &[u8] =
-    b"pool 0\nosd 0 1\nosd 1 1\nosd 2 1\ngroup 0 4 0 1 2\nwrite 1 1 - k a - full text:x\n\
-write 1 2 - k b - full text:y\nsettle 0\nsweep 0 deep\nend\n";
+// Two objects in a chunk each, of which one was written again and not yet applied.
+const SWEEP: &[u8] = b"pool 0\nosd 0 1\nosd 1 1\ngroup 0 4 0 1\nwrite 1 1 - k a - full text:x\n\
+write 1 2 - k b - full text:y\nsettle 0\nwrite 1 3 - k a - full text:z\nsweep 0 deep\nend\n";
 
-const WRITTEN: &[u8] =
+const SWEPT: &[u8] =
+    b"write 1 1 - k a - full text:x : accepted 4'1\nwrite 1 2 - k b - full text:y : accepted 4'2\n\
+pull 0 0 : pulled 0 2\napply 0 0 : applied 1\napply 0 0 : applied 2\napply 0 0 : not-yet 2\n\
+tell 0 0 : told 2\npull 0 1 : pulled 0 2\napply 0 1 : applied 1\napply 0 1 : applied 2\n\
+apply 0 1 : not-yet 2\ntell 0 1 : told 2\nwrite 1 3 - k a - full text:z : accepted 4'3\n\
+begin 0 deep : began 0.1\nopen 0 : opened 1 from min to at - k b version 3 limit 1\n\
+pull 0 0 : pulled 2 3 asked 1\nscan 0 0 : not-yet 2 3\napply 0 0 : applied 3\n\
+scan 0 0 : found - k a head\nscan 0 0 : more\nscan 0 0 : more\n\
+scan 0 0 : passed - k a head\nscan 0 0 : done\ntake 0 0 : taken 3 10\n\
+pull 0 1 : pulled 2 3 asked 1\nscan 0 1 : not-yet 2 3\napply 0 1 : applied 3\n\
+scan 0 1 : found - k a head\nscan 0 1 : more\nscan 0 1 : more\n\
+scan 0 1 : passed - k a head\nscan 0 1 : done\ntake 0 1 : taken 3 10\n\
+close 0 : closed 1 findings 0 snaps 0\n\
+open 0 : opened 2 from at - k b to max version 2 limit 1\npull 0 0 : pulled 3 3 asked 2\n\
+scan 0 0 : found - k b head\nscan 0 0 : more\nscan 0 0 : more\n\
+scan 0 0 : passed - k b head\nscan 0 0 : done\ntake 0 0 : taken 3 17\n\
+pull 0 1 : pulled 3 3 asked 2\nscan 0 1 : found - k b head\nscan 0 1 : more\n\
+scan 0 1 : more\nscan 0 1 : passed - k b head\nscan 0 1 : done\ntake 0 1 : taken 3 17\n\
+close 0 : closed 2 findings 0 snaps 0 completes\nend\n";
+
+#[test]
+fn chunks_of_one_position(rt: HostRuntime) -> Result<(), Fail> {
+    let sink = replayed(rt.alloc(), one_by_one(5), SWEEP)?;
+    assert_eq!(rt; sink.taken(), SWEPT);
+    Ok(())
+}
+
+// A write in a firm chunk, which is sent twice, and taken up once the chunk is closed.
+const PARKING: &[u8] =
+    b"pool 0\nosd 0 1\nosd 1 1\nosd 2 1\ngroup 0 4 0 1 2\nwrite 1 1 - k a - full text:x\n\
+write 1 2 - k b - full text:y\nsettle 0\nbegin 0 deep\nopen 0\n\
+write 1 3 - k b - attr _x text:v\nwrite 1 4 - k a - attr _x text:v\n\
+write 1 4 - k a - attr _x text:v\ncollect 0 1 4\npull 0 0\nscan 0 0\nscan 0 0\nscan 0 0\n\
+scan 0 0\nscan 0 0\ntake 0 0\npull 0 1\nscan 0 1\nscan 0 1\nscan 0 1\nscan 0 1\nscan 0 1\n\
+take 0 1\npull 0 2\nscan 0 2\nscan 0 2\nscan 0 2\nscan 0 2\nscan 0 2\ntake 0 2\nclose 0\n\
+write 1 4 - k a - attr _x text:v\nend\n";
+
+const PARKED: &[u8] =
     b"write 1 1 - k a - full text:x : accepted 4'1\nwrite 1 2 - k b - full text:y : accepted 4'2\n\
 pull 0 0 : pulled 0 2\napply 0 0 : applied 1\napply 0 0 : applied 2\napply 0 0 : not-yet 2\n\
 tell 0 0 : told 2\npull 0 1 : pulled 0 2\napply 0 1 : applied 1\napply 0 1 : applied 2\n\
 apply 0 1 : not-yet 2\ntell 0 1 : told 2\npull 0 2 : pulled 0 2\napply 0 2 : applied 1\n\
-apply 0 2 : applied 2\napply 0 2 : not-yet 2\ntell 0 2 : told 2\npull 0 0 : pulled 2 2\n\
-apply 0 0 : not-yet 2\ntell 0 0 : told 2\npull 0 1 : pulled 2 2\napply 0 1 : not-yet 2\n\
-tell 0 1 : told 2\npull 0 2 : pulled 2 2\napply 0 2 : not-yet 2\ntell 0 2 : told 2\n\
-begin 0 deep : began 0.1\nopen 0 : opened 1 from min to at - k b version 1 limit 1\n\
-close 0 : closed 1 findings 0 snaps 0\nopen 0 : opened 2 from at - k b to max version 2 limit 1\n\
-close 0 : closed 2 findings 0 snaps 0 completes\nend\n";
-
-fn one_by_one() -> Settings {
-    Settings {
-        limits: Limits {
-            chunk_min: 1,
-            chunk_max: 1,
-            preemptions: 5,
-        },
-        ..Settings::usual()
-    }
-}
-
-fn run(alloc: Global) -> Result<MemSink, AllocError> {
-    let script = Bytes::from_slice(alloc, SCRIPT)?;
-    let mut source = MemSource::new(script, 64, Vec::new(alloc));
-    let mut sink = MemSink::new(alloc, 100, Vec::new(alloc), Vec::new(alloc));
-    replay(alloc, one_by_one(), &mut source, &mut sink);
-    Ok(sink)
-}
+apply 0 2 : applied 2\napply 0 2 : not-yet 2\ntell 0 2 : told 2\nbegin 0 deep : began 0.1\n\
+open 0 : opened 1 from min to at - k b version 1 limit 1 firm\n\
+write 1 3 - k b - attr _x text:v : accepted 4'3\n\
+write 1 4 - k a - attr _x text:v : parked from min to at - k b\n\
+write 1 4 - k a - attr _x text:v : parked from min to at - k b\n\
+collect 0 1 4 : still-parked 1\npull 0 0 : pulled 2 3 asked 1\nscan 0 0 : found - k a head\n\
+scan 0 0 : more\nscan 0 0 : more\nscan 0 0 : passed - k a head\nscan 0 0 : done\n\
+take 0 0 : taken 2 9\npull 0 1 : pulled 2 3 asked 1\nscan 0 1 : found - k a head\n\
+scan 0 1 : more\nscan 0 1 : more\nscan 0 1 : passed - k a head\nscan 0 1 : done\n\
+take 0 1 : taken 2 9\npull 0 2 : pulled 2 3 asked 1\nscan 0 2 : found - k a head\n\
+scan 0 2 : more\nscan 0 2 : more\nscan 0 2 : passed - k a head\nscan 0 2 : done\n\
+take 0 2 : taken 2 9\nclose 0 : closed 1 findings 0 snaps 0\nadmit 1 4 : accepted 4'4\n\
+write 1 4 - k a - attr _x text:v : repeat 4'4\nend\n";
 
 #[test]
-fn chunks_of_one_position(rt: HostRuntime) -> Result<(), Fail> {
-    let sink = run(rt.alloc())?;
-    assert_eq!(rt; sink.taken(), WRITTEN);
+fn a_write_that_waits(rt: HostRuntime) -> Result<(), Fail> {
+    let sink = replayed(rt.alloc(), one_by_one(0), PARKING)?;
+    assert_eq!(rt; sink.taken(), PARKED);
+    Ok(())
+}
+
+// A scan of an OSD that didn't apply the newest write of its chunk.
+const WAITING: &[u8] =
+    b"pool 0\nosd 0 1\nosd 1 1\nosd 2 1\ngroup 0 4 0 1 2\nwrite 1 1 - k a - full text:x\n\
+write 1 2 - k b - full text:y\nwrite 1 3 - k a - full text:z\nsettle 0\n\
+write 1 4 - k a - full text:w\nwrite 1 5 - k b - full text:v\nbegin 0 deep\nopen 0\n\
+pull 0 1\nscan 0 1\napply 0 1\napply 0 1\nscan 0 1\nend\n";
+
+const WAITED: &[u8] =
+    b"write 1 1 - k a - full text:x : accepted 4'1\nwrite 1 2 - k b - full text:y : accepted 4'2\n\
+write 1 3 - k a - full text:z : accepted 4'3\npull 0 0 : pulled 0 3\napply 0 0 : applied 1\n\
+apply 0 0 : applied 2\napply 0 0 : applied 3\napply 0 0 : not-yet 3\ntell 0 0 : told 3\n\
+pull 0 1 : pulled 0 3\napply 0 1 : applied 1\napply 0 1 : applied 2\napply 0 1 : applied 3\n\
+apply 0 1 : not-yet 3\ntell 0 1 : told 3\npull 0 2 : pulled 0 3\napply 0 2 : applied 1\n\
+apply 0 2 : applied 2\napply 0 2 : applied 3\napply 0 2 : not-yet 3\ntell 0 2 : told 3\n\
+write 1 4 - k a - full text:w : accepted 4'4\nwrite 1 5 - k b - full text:v : accepted 4'5\n\
+begin 0 deep : began 0.1\nopen 0 : opened 1 from min to at - k b version 4 limit 1\n\
+pull 0 1 : pulled 3 5 asked 1\nscan 0 1 : not-yet 3 4\napply 0 1 : applied 4\n\
+apply 0 1 : applied 5\nscan 0 1 : found - k a head\nend\n";
+
+#[test]
+fn a_scan_that_waits(rt: HostRuntime) -> Result<(), Fail> {
+    let sink = replayed(rt.alloc(), one_by_one(5), WAITING)?;
+    assert_eq!(rt; sink.taken(), WAITED);
     Ok(())
 }

@@ -11,4 +11,4 @@ returns-in_ok-answer-in-Some-clause-answer c =
     let there : position (is_of c.args.osd) c.self.inside.items.items ≡ Some c.in-Some.at = search rules in
     let is : c.index_mut-shard.result.now ≡ get_or c.self.inside.items.items c.in-Some.at c.index_mut-shard.result.now = search rules in
     let told : c.in_ok-answer-in-Some.answer ≡ apply_answer c.index_mut-shard.result.now.past = search rules in
-    answer_some c.args.osd c.self.inside.items.items c.args.self.now c.self.view_is c.in-Some.at there c.index_mut-shard.result.now is c.in_ok-answer-in-Some.answer told
+    answer_some c.args.osd c.self.inside.stride c.self.inside.items.items c.args.self.now c.self.view_is c.in-Some.at there c.index_mut-shard.result.now is c.in_ok-answer-in-Some.answer told

@@ -1,10 +1,7 @@
-use Rattle.std.proofs.Common.{sym, ap, ◌∙◌}
-use Rattle.std.specs.Prelude.{is_some}
-use Rattle.pgs_history.specs.Scrubs.{running}
-use Rattle.pgs_world.proofs.Walks.{walk_falls}
+use Rattle.pgs_world.proofs.Sweeps.{walking_next}
 use Rattle.pgs_world.proofs.world.World.walk.Goals as goal
 
-pub loop-self-smaller : goal.loop-self-smaller
-loop-self-smaller c =
-    let runs = ap is_some (sym (c.running.ensures ∙ ap (λ w. running w.past) c.self.view_is)) ∙ sym c.is_some.ensures ∙ c.loop-self-test.true in
-    walk_falls c.args.self.now c.args.group c.loop-self.self c.scrub_chunk.new.self c.loop-self.invariant runs c.in_ok-scrub_chunk.ensures
+pub loop-preserved : goal.loop-preserved
+loop-preserved c =
+    walking_next c.args.self.now c.args.group c.most-most.result c.loop.counter c.loop.self c.scrub_chunk.new.self c.in_ok-scrub_chunk.field-0 c.loop.invariant c.loop-test.true c.if-not-branch.false
+    c.in_ok-scrub_chunk.ensures.further c.in_ok-scrub_chunk.ensures.after

@@ -1,0 +1,3 @@
+-- Words as they are appended.
+pub mod Marked
+pub mod Behind

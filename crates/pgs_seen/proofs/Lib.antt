@@ -1,0 +1,2 @@
+-- The entries of each scan that ended with a map are what was seen.
+pub mod Seen

@@ -1,2 +1,0 @@
--- What the tests' lists are.
-pub mod Few

@@ -1,4 +1,0 @@
-//! The scrubs of a group.
-mod calls;
-mod scrubs;
-mod seen;
