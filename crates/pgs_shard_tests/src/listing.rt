@@ -1,12 +1,11 @@
 //! Listings of a few positions, some of clones.
 ghost use Rattle.std.specs.Prelude.{◌≡◌, IfOk};
-ghost use Rattle.pgs_store.specs.Stores.{nothing_stored};
-ghost use Rattle.pgs_medium.specs.Ram.{device_of};
 ghost use Rattle.pgs_shard_history.specs.Feeds.{AreNext};
 
+use crate::making::device;
 use pgs_bytes::Bytes;
 use pgs_copy::Effect;
-use pgs_medium::{CallKind, FailingCall, Item, Medium, RamMedium};
+use pgs_medium::{CallKind, Item, Medium, RamMedium};
 use pgs_name::{Family, HEAD, ObjectId, is_before};
 use pgs_range::{Bound, Cursor};
 use pgs_shard::{ListError, Shard};
@@ -45,27 +44,21 @@ fn items(alloc: Global) -> Result<Items<Item>, AllocError>
     Ok(items)
 }
 
-// A device whose listing of a number fails.
-fn medium(alloc: Global, number: u64) -> Result<RamMedium, AllocError>
-    ensures { IfOk result (λ medium. (device_of medium).stored ≡ nothing_stored) }
-{
-    let mut failing = Items::new(alloc);
-    let call = FailingCall {
-        kind: CallKind::List,
-        number,
-    };
-    failing.push(call)?;
-    Ok(RamMedium::new(alloc, failing))
-}
-
-fn shard(alloc: Global, failing: u64) -> Result<Shard<RamMedium>, AllocError> {
-    let medium = medium(alloc, failing)?;
-    let mut shard = Shard::new(alloc, medium, 3, 4);
+// Feeds a shard these items, and applies them.
+fn fill<M: Medium>(alloc: Global, shard: &mut Shard<M>) -> Result<(), AllocError> {
     let items = items(alloc)?;
     shard.feed(0, items, None)?;
     for _ in 0..3 {
         let _ = shard.apply_next();
     }
+    Ok(())
+}
+
+// A shard with these items, of which a listing fails, by its number from 1.
+fn shard(alloc: Global, failing: u64) -> Result<Shard<RamMedium>, AllocError> {
+    let device = device(alloc, CallKind::List, failing)?;
+    let mut shard = Shard::new(alloc, device, 3, 4);
+    fill(alloc, &mut shard)?;
     Ok(shard)
 }
 
@@ -84,10 +77,10 @@ fn ascend(ids: &[ObjectId]) -> bool {
 }
 
 // How many positions a device lists by single calls.
-fn count_by_calls(medium: &mut RamMedium) -> Option<u64> {
+fn count_by_calls<M: Medium>(device: &mut M) -> Option<u64> {
     let mut cursor = Cursor::At { bound: Bound::Min };
     for count in 0..100u64 {
-        match medium.next(&cursor, &Bound::Max).ok()? {
+        match device.next(&cursor, &Bound::Max).ok()? {
             Some(id) => cursor = Cursor::After { id },
             None => return Some(count),
         }
@@ -95,44 +88,66 @@ fn count_by_calls(medium: &mut RamMedium) -> Option<u64> {
     None
 }
 
-fn written(alloc: Global) -> Result<RamMedium, Fail> {
-    let mut medium = medium(alloc, 100)?;
+fn write<M: Medium>(alloc: Global, device: &mut M) -> Result<(), Fail> {
     let items = items(alloc)?;
     for item in items.as_slice() {
-        medium.write(item).ok().ok_or("written")?;
+        device.write(item).ok().ok_or("written")?;
     }
-    Ok(medium)
+    Ok(())
 }
 
 #[test]
 fn positions_are_listed_by_single_calls(rt: HostRuntime) -> Result<(), Fail> {
-    let mut medium = written(rt.alloc())?;
-    assert_eq!(rt; count_by_calls(&mut medium), Some(6));
+    let mut device = device(rt.alloc(), CallKind::List, 100)?;
+    write(rt.alloc(), &mut device)?;
+    assert_eq!(rt; count_by_calls(&mut device), Some(6));
     Ok(())
+}
+
+// How many positions a shard lists from a bound on, where they ascend.
+fn count_listed<M: Medium>(shard: &mut Shard<M>, start: &Bound, limit: u32) -> Option<usize> {
+    let listed = shard.list(start, limit).ok()?;
+    if !ascend(listed.as_slice()) {
+        return None;
+    }
+    Some(listed.len())
+}
+
+fn count_events<M: Medium>(shard: &Shard<M>) -> usize {
+    shard.events().len()
 }
 
 // So many positions are listed for each limit: two families at least, and more than the limit.
 #[test]
 fn a_listing_stops_behind_its_limit(rt: HostRuntime) -> Result<(), Fail> {
-    let alloc = rt.alloc();
-    let mut shard = shard(alloc, 100)?;
+    let mut shard = shard(rt.alloc(), 100)?;
     let rows = [(0, 3), (2, 3), (3, 4), (5, 6), (6, 6), (25, 6)];
     for (limit, wanted) in rows {
-        let listed = shard.list(&Bound::Min, limit).ok().ok_or("listed")?;
-        assert_eq!(rt; listed.len(), wanted);
-        assert!(rt; ascend(listed.as_slice()));
+        assert_eq!(rt; count_listed(&mut shard, &Bound::Min, limit), Some(wanted));
     }
-    assert_eq!(rt; shard.events().len(), 4);
+    assert_eq!(rt; count_events(&shard), 4);
     Ok(())
+}
+
+// Whether a listing is answered with the first fault.
+fn fails<M: Medium>(shard: &mut Shard<M>) -> bool {
+    let listed = shard.list(&Bound::Min, 25);
+    matches!(&listed, Err(ListError::ListFault { count: 1 }))
+}
+
+// Whether the event of this index is a listing that failed with the first fault.
+fn is_failure<M: Medium>(shard: &Shard<M>, index: usize) -> bool {
+    matches!(
+        shard.events().get(index),
+        Some(Event::ListFailed { count: 1 })
+    )
 }
 
 #[test]
 fn a_failed_listing_is_kept(rt: HostRuntime) -> Result<(), Fail> {
     let mut shard = shard(rt.alloc(), 2)?;
-    let failed = shard.list(&Bound::Min, 25);
-    assert!(rt; matches!(&failed, Err(ListError::ListFault { count: 1 })));
-    assert!(rt; matches!(shard.events().get(4), Some(Event::ListFailed { count: 1 })));
-    let listed = shard.list(&Bound::Max, 25).ok().ok_or("listed")?;
-    assert_eq!(rt; listed.len(), 0);
+    assert!(rt; fails(&mut shard));
+    assert!(rt; is_failure(&shard, 4));
+    assert_eq!(rt; count_listed(&mut shard, &Bound::Max, 25), Some(0));
     Ok(())
 }

@@ -80,7 +80,7 @@ fn snap(number: u64) -> u64 {
     if snap == 0 { HEAD } else { snap }
 }
 
-fn write(alloc: Global, medium: &mut RamMedium, family: Family, snap: u64) -> Result<(), Fail> {
+fn write<M: Medium>(alloc: Global, medium: &mut M, family: Family, snap: u64) -> Result<(), Fail> {
     let mut effects = Items::new(alloc);
     effects.push((snap, Effect::Clear))?;
     let item = Item {
@@ -94,10 +94,10 @@ fn write(alloc: Global, medium: &mut RamMedium, family: Family, snap: u64) -> Re
 }
 
 // Writes copies at so many positions, and gives their rows, sorted and each once.
-fn written(
+fn written<M: Medium>(
     alloc: Global,
     tables: &Tables<1>,
-    medium: &mut RamMedium,
+    medium: &mut M,
     count: u64,
 ) -> Result<Vec<Row>, Fail> {
     let mut rows = Vec::new(alloc);
@@ -115,7 +115,7 @@ fn written(
 }
 
 // The rows of all positions, as the device lists them.
-fn listed(alloc: Global, tables: &Tables<1>, medium: &mut RamMedium) -> Result<Vec<Row>, Fail> {
+fn listed<M: Medium>(alloc: Global, tables: &Tables<1>, medium: &mut M) -> Result<Vec<Row>, Fail> {
     let mut rows = Vec::new(alloc);
     let mut cursor = Cursor::At { bound: Bound::Min };
     for _ in 0..10000 {
@@ -130,7 +130,7 @@ fn listed(alloc: Global, tables: &Tables<1>, medium: &mut RamMedium) -> Result<V
     Ok(rows)
 }
 
-fn next(medium: &mut RamMedium, cursor: &Cursor) -> Result<Option<ObjectId>, Fail> {
+fn next<M: Medium>(medium: &mut M, cursor: &Cursor) -> Result<Option<ObjectId>, Fail> {
     let next = medium.next(cursor, &Bound::Max).ok().ok_or("listed")?;
     Ok(next)
 }

@@ -60,28 +60,39 @@ fn item(alloc: Global) -> Result<Item, AllocError> {
     })
 }
 
-// A device with this head, of which the first call of each of these kinds fails.
-fn device(alloc: Global, kinds: &[CallKind]) -> Result<RamMedium, Fail> {
-    let mut failing = Items::new(alloc);
+// Calls of these kinds, each the first.
+fn first_calls(alloc: Global, kinds: &[CallKind]) -> Result<Items<FailingCall>, AllocError> {
+    let mut calls = Items::new(alloc);
     for kind in kinds {
-        failing.push(FailingCall {
+        calls.push(FailingCall {
             kind: *kind,
             number: 1,
         })?;
     }
-    let mut device = RamMedium::new(alloc, failing);
+    Ok(calls)
+}
+
+fn write<M: Medium>(alloc: Global, device: &mut M) -> Result<(), Fail> {
     let item = item(alloc)?;
     device.write(&item).ok().ok_or("a write")?;
+    Ok(())
+}
+
+// A device with this head, of which the first call of each of these kinds fails.
+fn device(alloc: Global, kinds: &[CallKind]) -> Result<RamMedium, Fail> {
+    let failing = first_calls(alloc, kinds)?;
+    let mut device = RamMedium::new(alloc, failing);
+    write(alloc, &mut device)?;
     Ok(device)
 }
 
 // The size of a copy: nothing where it isn't there, or the device fails.
-fn size(device: &mut RamMedium, family: &Family, snap: u64) -> Option<u64> {
+fn size<M: Medium>(device: &mut M, family: &Family, snap: u64) -> Option<u64> {
     device.stat(family, snap).ok()?
 }
 
 // Whether an attribute has a value.
-fn has_attribute(device: &mut RamMedium, family: &Family, name: &Bytes, value: &[u8]) -> bool {
+fn has_attribute<M: Medium>(device: &mut M, family: &Family, name: &Bytes, value: &[u8]) -> bool {
     match device.attrs(family, HEAD) {
         Ok(Some(attrs)) => match attrs.get(name) {
             Some(found) => found.as_slice() == value,
@@ -92,14 +103,14 @@ fn has_attribute(device: &mut RamMedium, family: &Family, name: &Bytes, value: &
 }
 
 // Whether so many bytes from a place on are these.
-fn reads(device: &mut RamMedium, family: &Family, from: u64, count: u64, wanted: &[u8]) -> bool {
+fn reads<M: Medium>(device: &mut M, family: &Family, from: u64, count: u64, wanted: &[u8]) -> bool {
     match device.read(family, HEAD, from, count) {
         Ok(Some(bytes)) => bytes.as_slice() == wanted,
         _ => false,
     }
 }
 
-fn page(device: &mut RamMedium, family: &Family, behind: Option<&Bytes>) -> Option<OmapPage> {
+fn page<M: Medium>(device: &mut M, family: &Family, behind: Option<&Bytes>) -> Option<OmapPage> {
     device.omap(family, HEAD, behind).ok()?
 }
 
@@ -120,6 +131,15 @@ fn begins(page: &OmapPage, first: &Bytes) -> bool {
         Some((key, value)) => key == first && value == first,
         None => false,
     }
+}
+
+// Which of the reading calls fail, of each kind one.
+fn failures<M: Medium>(device: &mut M, family: &Family) -> [bool; 4] {
+    let stat = device.stat(family, HEAD).is_err();
+    let attrs = device.attrs(family, HEAD).is_err();
+    let read = device.read(family, HEAD, 0, 9).is_err();
+    let omap = device.omap(family, HEAD, None).is_err();
+    [stat, attrs, read, omap]
 }
 
 #[test]
@@ -158,10 +178,7 @@ fn a_failing_call_of_each_kind(rt: HostRuntime) -> Result<(), Fail> {
     ];
     let mut device = device(rt.alloc(), &kinds)?;
     let family = family(rt.alloc())?;
-    assert!(rt; device.stat(&family, HEAD).is_err());
-    assert!(rt; device.attrs(&family, HEAD).is_err());
-    assert!(rt; device.read(&family, HEAD, 0, 9).is_err());
-    assert!(rt; device.omap(&family, HEAD, None).is_err());
+    assert_eq!(rt; failures(&mut device, &family), [true; 4]);
     assert_eq!(rt; device.faults(), 4);
     assert_eq!(rt; size(&mut device, &family, HEAD), Some(9));
     assert!(rt; reads(&mut device, &family, 0, 9, b"123456789"));
