@@ -1,5 +1,5 @@
 -- The order in which jobs are picked.
-use Rattle.std.proofs.Common.{ℕ, ◌≡◌, nat_eq, nat_lt, Bool, true, false, cond, refl, arith}
+use Rattle.std.proofs.Common.{◌≡◌, true, false, arith}
 use Rattle.std.proofs.lemmas.Bool.Decides.{nat_tests}
 use Rattle.pgs_queue.specs.declared.job.Job.{Job}
 use Rattle.pgs_queue.specs.Jobs.{is_before}

@@ -1,12 +1,11 @@
 -- That no group has two jobs, as jobs come and go.
-use Rattle.std.proofs.Common.{ℕ, ◌≡◌, ◌==◌, Bool, true, false, cond, not, List, [], ◌∷◌, ◌++◌, Option, Some, None, refl, sym, ap, ◌∙◌, subst, arith}
+use Rattle.std.proofs.Common.{ℕ, ◌≡◌, ◌==◌, true, false, cond, not, List, [], ◌∷◌, ◌++◌, Option, Some, None, refl, sym, ap, ◌∙◌, arith}
 use Rattle.std.specs.Prelude.{IfNone}
 use Rattle.std.proofs.lemmas.Bool.Decides.{nat_tests}
 use Rattle.pgs_bytes.proofs.Facts.{some_none}
 use Rattle.pgs_queue.specs.declared.job.Job.{Job}
-use Rattle.pgs_queue.specs.declared.add_answer.AddAnswer.{AddAnswer}
 use Rattle.pgs_queue.specs.declared.add_answer.AddAnswer.TheVariants.{Queued, Already}
-use Rattle.pgs_queue.specs.Jobs.{job_of, without, answer_by, add_answer, with_job_by, with_job, least_ripe, taken_out, AreDistinct}
+use Rattle.pgs_queue.specs.Jobs.{job_of, without, answer_by, add_answer, with_job_by, with_job, AreDistinct}
 use Rattle.pgs_queue.proofs.Picks.{picked}
 
 -- where a group has no job, the first isn't of it, nor has it one of the rest

@@ -1,11 +1,11 @@
 -- What the least job that may be picked is.
-use Rattle.std.proofs.Common.{ℕ, ◌≡◌, ◌<◌, zero, suc, Bool, true, false, cond, List, [], ◌∷◌, length, Option, Some, None, refl, sym, ap, ◌∙◌, subst, arith}
-use Rattle.std.specs.Prelude.{Contains, All}
+use Rattle.std.proofs.Common.{ℕ, ◌≡◌, ◌<◌, suc, Bool, true, false, cond, List, [], ◌∷◌, length, Option, Some, None, refl, sym, ◌∙◌, subst, arith}
+use Rattle.std.specs.Prelude.{Contains}
 use Rattle.std.specs.List.{AllByRecursion}
 use Rattle.std.proofs.lemmas.List.Elements.{All-from_recursion}
 use Rattle.pgs_bytes.proofs.Facts.{none_some, some_none, some_same, true_false}
 use Rattle.pgs_queue.specs.declared.job.Job.{Job}
-use Rattle.pgs_queue.specs.Jobs.{is_ripe, is_before, lesser, least_ripe, taken_out, without, IsPicked}
+use Rattle.pgs_queue.specs.Jobs.{is_ripe, is_before, lesser, least_ripe, taken_out, IsPicked}
 use Rattle.pgs_queue.proofs.Before.{before_itself, before_turned, before_joined}
 
 -- ---- none may be picked

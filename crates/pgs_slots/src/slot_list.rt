@@ -87,8 +87,7 @@ impl SlotList {
         match place(self.rows.as_slice(), osd) {
             Some(at) => {
                 let row = &mut self.rows[at];
-                let slot = row.release(holder);
-                slot
+                row.release(holder)
             }
             None => None,
         }
