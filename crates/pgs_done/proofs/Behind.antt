@@ -39,6 +39,12 @@ step_some (dones.Open group answer) = refl
 step_some (dones.Scan group osd answer) = refl
 step_some (dones.Take group osd answer) = refl
 step_some (dones.Close group answer) = refl
+step_some (dones.Interval group acting answer) = refl
+step_some (dones.Claim group answer) = refl
+step_some (dones.Release group osd answer) = refl
+step_some (dones.Job group kind rank moment answer) = refl
+step_some (dones.Unjob group answer) = refl
+step_some (dones.Pick moment answer) = refl
 
 -- the line of what was done, as it is appended
 pub printed : (d : Done) (out : List ℕ) → (((out ++ begins (step_words d)) ++ behind (codes ":" ∷ [])) ++ behind (answer_words d)) ++ 10 ∷ [] ≡ out ++ done_line d

@@ -9,6 +9,7 @@ use Rattle.pgs_done.specs.Ranges.{as_kept}
 use Rattle.pgs_done.specs.Answers.{write_words, collect_words, pull_words, apply_words, damage_words}
 use Rattle.pgs_done.specs.Scrubs.{begin_words, open_words, close_words}
 use Rattle.pgs_done.specs.Scans.{scan_words, take_words}
+use Rattle.pgs_done.specs.Plans.{interval_words, claim_words, release_words, job_words, unjob_words, pick_words}
 use Rattle.pgs_done.specs.declared.done.Done.{Done}
 use Rattle.pgs_done.specs.declared.done.Done.TheVariants as dones
 
@@ -27,6 +28,12 @@ step_words (dones.Open group answer) = (basic_said (basics.Open group)).words
 step_words (dones.Scan group osd answer) = (basic_said (basics.Scan group osd)).words
 step_words (dones.Take group osd answer) = (basic_said (basics.Take group osd)).words
 step_words (dones.Close group answer) = (basic_said (basics.Close group)).words
+step_words (dones.Interval group acting answer) = (basic_said (basics.Interval group acting)).words
+step_words (dones.Claim group answer) = (basic_said (basics.Claim group)).words
+step_words (dones.Release group osd answer) = (basic_said (basics.Release group osd)).words
+step_words (dones.Job group kind rank moment answer) = (basic_said (basics.Job group kind rank moment)).words
+step_words (dones.Unjob group answer) = (basic_said (basics.Unjob group)).words
+step_words (dones.Pick moment answer) = (basic_said (basics.Pick moment)).words
 
 abbrev pub answer_words : Done → List (List ℕ)
 answer_words (dones.Write client serial object context op answer) = write_words answer
@@ -41,6 +48,12 @@ answer_words (dones.Open group answer) = open_words answer
 answer_words (dones.Scan group osd answer) = scan_words answer
 answer_words (dones.Take group osd answer) = take_words answer
 answer_words (dones.Close group answer) = close_words answer
+answer_words (dones.Interval group acting answer) = interval_words group answer
+answer_words (dones.Claim group answer) = claim_words answer
+answer_words (dones.Release group osd answer) = release_words group answer
+answer_words (dones.Job group kind rank moment answer) = job_words answer
+answer_words (dones.Unjob group answer) = unjob_words answer
+answer_words (dones.Pick moment answer) = pick_words answer
 
 -- words with one space between two of them, and the line's end
 abbrev pub line_of : List (List ℕ) → List ℕ

@@ -5,4 +5,5 @@ pub mod Ranges
 pub mod Answers
 pub mod Scrubs
 pub mod Scans
+pub mod Plans
 pub mod Done

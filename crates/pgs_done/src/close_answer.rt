@@ -31,4 +31,18 @@ pub enum CloseAnswer {
         /// The client's number for the write.
         serial: u32,
     },
+    /// The acting members changed, which ended the scrub.
+    IntervalChanged {
+        /// The epoch in which the scrub began.
+        old: u32,
+        /// The epoch that ended it.
+        new: u32,
+    },
+    /// The device of a member failed, which ended the scrub.
+    DeviceFault {
+        /// The OSD.
+        osd: u32,
+        /// The device's count of faults.
+        count: u64,
+    },
 }

@@ -1,14 +1,21 @@
 use crate::apply_answer::ApplyAnswer;
 use crate::begin_answer::BeginAnswer;
+use crate::claim_answer::ClaimAnswer;
 use crate::close_answer::CloseAnswer;
 use crate::collect_answer::CollectAnswer;
 use crate::damage_answer::DamageAnswer;
+use crate::interval_answer::IntervalAnswer;
+use crate::job_answer::JobAnswer;
 use crate::open_answer::OpenAnswer;
+use crate::pick_answer::PickAnswer;
+use crate::release_answer::ReleaseAnswer;
 use crate::scan_answer::ScanAnswer;
 use crate::take_answer::TakeAnswer;
+use crate::unjob_answer::UnjobAnswer;
 use crate::write_answer::WriteAnswer;
 use pgs_lines::{Damage, Kind, Object, Snap};
 use pgs_request::{Op, SnapContext};
+use sqlite_items::Items;
 
 /// A thing that was done, with its answer. Each is one printed line.
 #[derive(Drop)]
@@ -134,5 +141,57 @@ pub enum Done {
         group: u32,
         /// The answer.
         answer: CloseAnswer,
+    },
+    /// The acting members of a group were to change.
+    Interval {
+        /// The group.
+        group: u32,
+        /// The OSDs that were to act. The first is the primary.
+        acting: Items<u32>,
+        /// The answer.
+        answer: IntervalAnswer,
+    },
+    /// A scrub was to claim a slot of the OSD that comes next.
+    Claim {
+        /// The group.
+        group: u32,
+        /// The answer.
+        answer: ClaimAnswer,
+    },
+    /// A slot was to be given back that an ended scrub holds.
+    Release {
+        /// The group.
+        group: u32,
+        /// The OSD.
+        osd: u32,
+        /// The answer.
+        answer: ReleaseAnswer,
+    },
+    /// A scrub was to be put into the queue.
+    Job {
+        /// The group.
+        group: u32,
+        /// What the scrub looks at.
+        kind: Kind,
+        /// Its rank.
+        rank: u8,
+        /// The moment from which on it may be picked.
+        moment: u32,
+        /// The answer.
+        answer: JobAnswer,
+    },
+    /// A scrub was to be taken out of the queue.
+    Unjob {
+        /// The group.
+        group: u32,
+        /// The answer.
+        answer: UnjobAnswer,
+    },
+    /// The next scrub was to be picked from the queue.
+    Pick {
+        /// The moment.
+        moment: u32,
+        /// The answer.
+        answer: PickAnswer,
     },
 }

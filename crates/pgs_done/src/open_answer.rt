@@ -23,4 +23,16 @@ pub enum OpenAnswer {
     },
     /// No scrub of the group goes on.
     NoScrub,
+    /// The scrub still claims slots.
+    Reserving {
+        /// The OSD that comes next.
+        osd: u32,
+    },
+    /// The device of the primary failed.
+    DeviceFault {
+        /// The primary.
+        osd: u32,
+        /// The device's count of faults.
+        count: u64,
+    },
 }

@@ -5,6 +5,7 @@ mod damages;
 mod lines;
 mod objects;
 mod ops;
+mod plans;
 mod ranges;
 mod scans;
 mod scrubs;

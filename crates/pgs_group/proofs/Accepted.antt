@@ -1,5 +1,5 @@
 -- The fields of a group after a write was appended.
-use Rattle.std.proofs.Common.{◌≡◌, ℕ, ◌+◌, cond, false, List, [], ◌∷◌, ◌++◌, Some, None, reverse, sym, ap, ◌∙◌}
+use Rattle.std.proofs.Common.{◌≡◌, ℕ, ◌+◌, cond, false, List, [], ◌∷◌, ◌++◌, Some, None, reverse, refl, sym, ap, ◌∙◌}
 use Rattle.std.specs.HashSet.{contains}
 use Rattle.std.proofs.lemmas.List.{reverse-append}
 use Rattle.pgs_name.specs.Families.{Family, same_family}
@@ -27,6 +27,7 @@ use Rattle.pgs_history.specs.declared.event.Event.TheVariants.{Submit, Admit}
 use Rattle.pgs_history.proofs.Held.{held_more}
 use Rattle.pgs_history.proofs.New.{new_logged, new_admitted, without_first}
 use Rattle.pgs_history.proofs.Answered.{apart_is}
+use Rattle.pgs_group.proofs.Kept.{AreEnds, kept_acts, kept_epochs, kept_over, kept_ended}
 use Rattle.pgs_group.specs.Counts.{count_of}
 use Rattle.pgs_group.specs.Given.{pulled_of, asked_of}
 use Rattle.pgs_group.specs.Weighed.{AreEffects, IsMaking}
@@ -79,9 +80,9 @@ pub tied_beside : (g : Inside) (made : Made) (past : List Event) (write : Write)
     → new.log.items ≡ made_item version write effects ∷ g.log.items → new.log.ids ≡ (write.id, version) ∷ g.log.ids → new.log.bytes ≡ g.log.bytes + payload_size write.op
     → AreSame (clean_of new.clean) (affected write.family effects (clean_of g.clean)) → held_by new.clean ≡ held_with g.clean write.family effects
     → new.refused.items ≡ of_others write.id g.refused.items
-    → new.waiting ≡ g.waiting → new.given ≡ g.given → new.told ≡ g.told → new.collected ≡ g.collected → new.scrubs ≡ g.scrubs → new.fates.items ≡ g.fates.items
+    → new.waiting ≡ g.waiting → new.given ≡ g.given → new.told ≡ g.told → new.collected ≡ g.collected → new.scrubs ≡ g.scrubs → new.fates.items ≡ g.fates.items → AreEnds g new
     → AreTied new (Submit write (Accepted version None) ∷ past)
-tied_beside g made past write version effects new tied idle making next li lids lb cl hl rf w gv t c s f =
+tied_beside g made past write version effects new tied idle making next li lids lb cl hl rf w gv t c s f e =
     let l = logged g made past write version effects new tied next making.effect li lids lb cl hl in
     record {
       log_items = l.log_items;
@@ -96,7 +97,10 @@ tied_beside g made past write version effects new tied idle making next li lids 
       asks = λ osd. ap (λ x. asked_of x osd) gv ∙ tied.asks osd;
       tells = λ osd. ap (λ x. count_of x osd) t ∙ tied.tells osd;
       scrubs = s ∙ tied.scrubs;
-      ended = f ∙ tied.ended;
+      acts = kept_acts g new past e tied;
+      epochs = kept_epochs g new past e tied;
+      over = kept_over g new past e tied;
+      ended = kept_ended g new past e tied new.fates.items f;
       ordered = (tt, tied.ordered);
       collects = λ id. ap (λ x. contains same_id x id) c ∙ tied.collects id;
     }
@@ -113,9 +117,9 @@ pub tied_over : (g : Inside) (made : Made) (past : List Event) (write : Write) (
     → new.refused.items ≡ of_others write.id g.refused.items
     → new.fates.items ≡ g.fates.items ++ fates_are.Preempted write.id ∷ []
     → new.scrubs ≡ given_way g.scrubs
-    → new.waiting ≡ g.waiting → new.given ≡ g.given → new.told ≡ g.told → new.collected ≡ g.collected
+    → new.waiting ≡ g.waiting → new.given ≡ g.given → new.told ≡ g.told → new.collected ≡ g.collected → AreEnds g new
     → AreTied new (Submit write (Accepted version (Some chunk)) ∷ past)
-tied_over g made past write version effects chunk new tied idle making next li lids lb cl hl rf f s w gv t c =
+tied_over g made past write version effects chunk new tied idle making next li lids lb cl hl rf f s w gv t c e =
     let l = logged g made past write version effects new tied next making.effect li lids lb cl hl in
     record {
       log_items = l.log_items;
@@ -130,7 +134,10 @@ tied_over g made past write version effects chunk new tied idle making next li l
       asks = λ osd. ap (λ x. asked_of x osd) gv ∙ tied.asks osd;
       tells = λ osd. ap (λ x. count_of x osd) t ∙ tied.tells osd;
       scrubs = s ∙ ap given_way tied.scrubs;
-      ended = f ∙ ap (λ list. list ++ fates_are.Preempted write.id ∷ []) tied.ended;
+      acts = kept_acts g new past e tied;
+      epochs = kept_epochs g new past e tied;
+      over = kept_over g new past e tied;
+      ended = f ∙ ap (λ list. list ++ fates_are.Preempted write.id ∷ []) (kept_ended g new past e tied g.fates.items refl);
       ordered = (tt, tied.ordered);
       collects = λ id. ap (λ x. contains same_id x id) c ∙ tied.collects id;
     }
@@ -140,9 +147,9 @@ pub tied_taken : (g : Inside) (made : Made) (past : List Event) (write : Write) 
     → AreTied g past → AreEffects made past write effects → version ≡ next_version made past → g.waiting ≡ write ∷ new.waiting
     → new.log.items ≡ made_item version write effects ∷ g.log.items → new.log.ids ≡ (write.id, version) ∷ g.log.ids → new.log.bytes ≡ g.log.bytes + payload_size write.op
     → AreSame (clean_of new.clean) (affected write.family effects (clean_of g.clean)) → held_by new.clean ≡ held_with g.clean write.family effects
-    → new.refused.items ≡ g.refused.items → new.given ≡ g.given → new.told ≡ g.told → new.collected ≡ g.collected → new.scrubs ≡ g.scrubs → new.fates.items ≡ g.fates.items
+    → new.refused.items ≡ g.refused.items → new.given ≡ g.given → new.told ≡ g.told → new.collected ≡ g.collected → new.scrubs ≡ g.scrubs → new.fates.items ≡ g.fates.items → AreEnds g new
     → AreTied new (Admit write (Accepted version None) ∷ past)
-tied_taken g made past write version effects new tied h next taken li lids lb cl hl rf gv t c s f =
+tied_taken g made past write version effects new tied h next taken li lids lb cl hl rf gv t c s f e =
     let l = logged g made past write version effects new tied next h li lids lb cl hl in
     let whole : parked past ≡ write ∷ new.waiting = sym tied.waits ∙ taken in
     record {
@@ -158,7 +165,10 @@ tied_taken g made past write version effects new tied h next taken li lids lb cl
       asks = λ osd. ap (λ x. asked_of x osd) gv ∙ tied.asks osd;
       tells = λ osd. ap (λ x. count_of x osd) t ∙ tied.tells osd;
       scrubs = s ∙ tied.scrubs;
-      ended = f ∙ tied.ended;
+      acts = kept_acts g new past e tied;
+      epochs = kept_epochs g new past e tied;
+      over = kept_over g new past e tied;
+      ended = kept_ended g new past e tied new.fates.items f;
       ordered = (tt, tied.ordered);
       collects = λ id. ap (λ x. contains same_id x id) c ∙ tied.collects id;
     }

@@ -23,6 +23,7 @@ use Rattle.pgs_history.specs.declared.event.Event.{Event}
 use Rattle.pgs_history.specs.declared.event.Event.TheVariants.{Admit}
 use Rattle.pgs_history.proofs.New.{new_rest, without_first, first_new}
 use Rattle.pgs_history.proofs.Answered.{first_is}
+use Rattle.pgs_group.proofs.Kept.{AreEnds, kept_acts, kept_epochs, kept_over, kept_ended}
 use Rattle.pgs_group.specs.Counts.{count_of}
 use Rattle.pgs_group.specs.Given.{pulled_of, asked_of}
 use Rattle.pgs_group.specs.Steps.{admitted_told, admit_told}
@@ -148,9 +149,9 @@ fewer_so made past new is some = ap (λ events. length (parked events) + 1) is �
 
 pub tied_refused : (g new : Inside) (past : List Event) (write : Write) (why : Refusal) → AreTied g past → g.waiting ≡ write ∷ new.waiting
     → new.refused.items ≡ g.refused.items ++ (write.id, why) ∷ []
-    → new.log ≡ g.log → new.clean ≡ g.clean → new.given ≡ g.given → new.told ≡ g.told → new.collected ≡ g.collected → new.scrubs ≡ g.scrubs → new.fates.items ≡ g.fates.items
+    → new.log ≡ g.log → new.clean ≡ g.clean → new.given ≡ g.given → new.told ≡ g.told → new.collected ≡ g.collected → new.scrubs ≡ g.scrubs → new.fates.items ≡ g.fates.items → AreEnds g new
     → AreTied new (Admit write (answers.Declined (reasons.Refused why)) ∷ past)
-tied_refused g new past write why tied taken rf l cl gv t c s f =
+tied_refused g new past write why tied taken rf l cl gv t c s f e =
     let whole : parked past ≡ write ∷ new.waiting = sym tied.waits ∙ taken in
     record {
       log_items = ap (λ x. x.items) l ∙ tied.log_items;
@@ -165,7 +166,10 @@ tied_refused g new past write why tied taken rf l cl gv t c s f =
       asks = λ osd. ap (λ x. asked_of x osd) gv ∙ tied.asks osd;
       tells = λ osd. ap (λ x. count_of x osd) t ∙ tied.tells osd;
       scrubs = s ∙ tied.scrubs;
-      ended = f ∙ tied.ended;
+      acts = kept_acts g new past e tied;
+      epochs = kept_epochs g new past e tied;
+      over = kept_over g new past e tied;
+      ended = kept_ended g new past e tied new.fates.items f;
       ordered = (tt, tied.ordered);
       collects = λ id. ap (λ x. contains same_id x id) c ∙ tied.collects id;
     }

@@ -12,7 +12,7 @@ use Rattle.pgs_history.specs.Answers.{with_map, maps_of}
 use Rattle.pgs_history.specs.Chunks.{AreOrdered}
 use Rattle.pgs_history.specs.declared.take_answer.TakeAnswer.TheVariants.{Stale, Taken}
 use Rattle.pgs_history.specs.declared.event.Event.{Event}
-use Rattle.pgs_history.specs.declared.event.Event.TheVariants.{Submit, Admit, Collect, Pull, Tell, Begin, Open, Take, Close}
+use Rattle.pgs_history.specs.declared.event.Event.TheVariants.{Submit, Admit, Collect, Pull, Tell, Begin, Reserve, Open, Take, Close, Fault, Interval}
 
 -- ---- looked for from the newest event on
 
@@ -38,6 +38,9 @@ given (Tell o applied) chunk osd before map e = absurd (none_some map e)
 given (Begin kind answer) chunk osd before map e = absurd (none_some map e)
 given (Open serial listed answer) chunk osd before map e = absurd (none_some map e)
 given (Close c answer) chunk osd before map e = absurd (none_some map e)
+given (Reserve serial o denied answer) chunk osd before map e = absurd (none_some map e)
+given (Fault serial c o count answer) chunk osd before map e = absurd (none_some map e)
+given (Interval osds answer) chunk osd before map e = absurd (none_some map e)
 
 not_given : (event : Event) (chunk osd : ℕ) (before : Option ScrubMap) → taken_after event chunk osd None ≡ None → taken_after event chunk osd before ≡ before
 not_given (Take place m Taken) chunk osd before e =
@@ -54,6 +57,9 @@ not_given (Tell o applied) chunk osd before e = refl
 not_given (Begin kind answer) chunk osd before e = refl
 not_given (Open serial listed answer) chunk osd before e = refl
 not_given (Close c answer) chunk osd before e = refl
+not_given (Reserve serial o denied answer) chunk osd before e = refl
+not_given (Fault serial c o count answer) chunk osd before e = refl
+not_given (Interval osds answer) chunk osd before e = refl
 
 pub taken_here : (events : List Event) (chunk osd left at : ℕ) (event : Event) (map : ScrubMap) → left ≡ at + 1 → at < length events → event ≡ get_or events at event
     → taken_after event chunk osd None ≡ Some map → taken (reverse (take left events)) chunk osd ≡ Some map
@@ -83,6 +89,9 @@ in_order (Tell o applied ∷ past) chunk osd map h e = in_order past chunk osd m
 in_order (Begin kind answer ∷ past) chunk osd map h e = in_order past chunk osd map h.1 e
 in_order (Open serial listed answer ∷ past) chunk osd map h e = in_order past chunk osd map h.1 e
 in_order (Close c answer ∷ past) chunk osd map h e = in_order past chunk osd map h.1 e
+in_order (Reserve serial o denied answer ∷ past) chunk osd map h e = in_order past chunk osd map h.1 e
+in_order (Fault serial c o count answer ∷ past) chunk osd map h e = in_order past chunk osd map h.1 e
+in_order (Interval osds answer ∷ past) chunk osd map h e = in_order past chunk osd map h.1 e
 
 pub taken_ascends : (past : List Event) (chunk osd : ℕ) (map : ScrubMap) → AreOrdered past → Some map ≡ taken past chunk osd → AreAscending map.entries
 taken_ascends past chunk osd map h e = in_order past chunk osd map h (sym e)

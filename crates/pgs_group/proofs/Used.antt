@@ -9,7 +9,7 @@ use Rattle.pgs_history.specs.Scrubs.{used}
 use Rattle.pgs_history.specs.declared.write_answer.WriteAnswer.TheVariants.{Declined, Parked, QueueFull, Accepted}
 use Rattle.pgs_history.specs.declared.begin_answer.BeginAnswer.TheVariants.{Busy, Began}
 use Rattle.pgs_history.specs.declared.event.Event.{Event}
-use Rattle.pgs_history.specs.declared.event.Event.TheVariants.{Submit, Admit, Collect, Pull, Tell, Begin, Open, Take, Close}
+use Rattle.pgs_history.specs.declared.event.Event.TheVariants.{Submit, Admit, Collect, Pull, Tell, Begin, Reserve, Open, Take, Close, Fault, Interval}
 use Rattle.pgs_group.specs.Scrubbing.{scrubbing}
 use Rattle.pgs_group.specs.declared.scrubbing.Scrubbing.{Scrubbing}
 
@@ -22,7 +22,7 @@ no_halves limits used small many =
 
 pub used_most : (past : List Event) → used past ≤ length past
 used_most [] = omega arith
-used_most (Begin kind (Began serial) ∷ past) = omega arith
+used_most (Begin kind (Began serial first) ∷ past) = omega arith
 used_most (Begin kind (Busy serial) ∷ past) = let h = used_most past in omega (arith, h)
 used_most (Submit write (Declined why) ∷ past) = let h = used_most past in omega (arith, h)
 used_most (Submit write (Parked range) ∷ past) = let h = used_most past in omega (arith, h)
@@ -36,6 +36,9 @@ used_most (Tell osd applied ∷ past) = let h = used_most past in omega (arith, 
 used_most (Open serial listed answer ∷ past) = let h = used_most past in omega (arith, h)
 used_most (Take place map answer ∷ past) = let h = used_most past in omega (arith, h)
 used_most (Close chunk answer ∷ past) = let h = used_most past in omega (arith, h)
+used_most (Reserve serial osd denied answer ∷ past) = let h = used_most past in omega (arith, h)
+used_most (Fault serial number osd count answer ∷ past) = let h = used_most past in omega (arith, h)
+used_most (Interval osds answer ∷ past) = let h = used_most past in omega (arith, h)
 
 pub used_room : (s : Scrubbing) (events : List Event) (len room : ℕ) → s ≡ scrubbing (reverse events) → len ≡ length events → len ≤ room → room < 2 ^ 63 → s.used + 1 < 2 ^ 64
 used_room s events len room is whole within small =

@@ -1,6 +1,6 @@
 -- Where the scrubs of a group are, by its events.
 use Rattle.std.specs.Prelude.{List, None, if◌then◌else◌}
-use Rattle.pgs_history.specs.Scrubs.{begun, running, opened, open_chunk, start, used, end_of, last_kind}
+use Rattle.pgs_history.specs.Scrubs.{begun, current, opened, open_chunk, start, used, end_of, last_kind}
 use Rattle.pgs_history.specs.Answers.{is_last}
 use Rattle.pgs_history.specs.Findings.{findings}
 use Rattle.pgs_history.specs.declared.event.Event.{Event}
@@ -10,7 +10,7 @@ abbrev pub scrubbing : List Event → Scrubbing
 scrubbing past = record {
   begun = begun past;
   opened = opened past;
-  running = running past;
+  current = current past;
   open_chunk = open_chunk past;
   start = start past;
   used = used past;
@@ -21,7 +21,7 @@ scrubbing past = record {
 -- after the open chunk, if there is one, was closed
 abbrev pub closed : Scrubbing → Scrubbing
 closed s = record s {
-  running = if is_last s.open_chunk then None else s.running;
+  current = if is_last s.open_chunk then None else s.current;
   open_chunk = None;
   start = end_of s.open_chunk s.start;
 }

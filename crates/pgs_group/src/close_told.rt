@@ -16,6 +16,20 @@ pub enum CloseTold {
         /// The write's request.
         request: ReqId,
     },
+    /// A change of the acting list ended it.
+    IntervalChanged {
+        /// The epoch before.
+        old: u32,
+        /// The epoch then.
+        new: u32,
+    },
+    /// A device failed, and that ended it.
+    DeviceFault {
+        /// Its OSD.
+        osd: u32,
+        /// How many calls of it had failed.
+        count: u64,
+    },
     /// An acting OSD's map is missing.
     NotYet {
         /// The first such OSD.
@@ -40,6 +54,14 @@ pub fn told_of(answer: &CloseAnswer) -> CloseTold
         CloseAnswer::NoChunk => CloseTold::NoChunk,
         CloseAnswer::ClosedBefore => CloseTold::ClosedBefore,
         CloseAnswer::Preempted { request } => CloseTold::Preempted { request: *request },
+        CloseAnswer::IntervalChanged { old, new } => CloseTold::IntervalChanged {
+            old: *old,
+            new: *new,
+        },
+        CloseAnswer::DeviceFault { osd, count } => CloseTold::DeviceFault {
+            osd: *osd,
+            count: *count,
+        },
         CloseAnswer::NotYet { osd } => CloseTold::NotYet { osd: *osd },
         CloseAnswer::Closed { report, completes } => CloseTold::Closed {
             findings: report.found.len() as u64,

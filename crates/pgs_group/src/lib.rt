@@ -2,6 +2,7 @@
 #![tactic(auto)]
 
 mod accepting;
+mod acting;
 mod admitted;
 mod behind;
 mod close_told;
@@ -13,6 +14,8 @@ mod given;
 mod group;
 mod limits_now;
 mod next_chunk;
+mod noting;
+mod osds;
 mod pulled;
 mod refusals;
 mod scrubbing;

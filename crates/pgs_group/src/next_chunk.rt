@@ -1,8 +1,19 @@
+use pgs_history::Cause;
 use pgs_range::Bound;
 
 /// What a caller is told that is to open the next chunk.
 #[derive(Drop)]
 pub enum NextChunk {
+    /// The scrub has ended.
+    Over {
+        /// By this.
+        cause: Cause,
+    },
+    /// The scrub reserves.
+    StillReserving {
+        /// The OSD at which it claims next.
+        osd: u32,
+    },
     /// A chunk is open.
     Already {
         /// Its number.

@@ -1,6 +1,6 @@
-ghost use Rattle.std.specs.Prelude.{◌≡◌, ◌+◌, ◌<◌, ◌^◌, Some, None, OnOk, OnErr, IfOk, option_map};
+ghost use Rattle.std.specs.Prelude.{◌≡◌, ◌+◌, ◌<◌, ◌^◌, Some, None, OnOk, OnErr, IfOk, IfSome, option_map};
 ghost use Rattle.pgs_gate.specs.Gate.{verdict_of};
-ghost use Rattle.pgs_history.specs.Scrubs.{has_number, is_deep};
+ghost use Rattle.pgs_history.specs.Scrubs.{has_number, is_deep, further, ready, claims_of, serial_of, running_of};
 ghost use Rattle.pgs_history.specs.Answers.{is_greatest, is_last, taken_by, version_of, gate_of, waits, giving_way, ask_of, newly};
 ghost use Rattle.pgs_history.specs.Findings.{with_report};
 ghost use Rattle.pgs_incons.specs.Kept.{AreOrdered};
@@ -10,7 +10,7 @@ ghost use Rattle.pgs_group.specs.Scrubbing.{closed};
 use pgs_chunk::{Ask, Kind};
 use pgs_compare::Report;
 use pgs_gate::{Gate, Verdict};
-use pgs_history::{Chunk, TakeAnswer};
+use pgs_history::{Chunk, Current, TakeAnswer};
 use pgs_incons::Findings;
 use pgs_name::Family;
 use pgs_range::{Bound, FamilyRange};
@@ -23,8 +23,8 @@ pub struct Scrubbing {
     pub begun: u64,
     /// How many chunks were opened.
     pub opened: u64,
-    /// The scrub that runs.
-    pub running: Option<u64>,
+    /// The scrub that reserves or runs.
+    pub current: Option<Current>,
     /// The chunk that is open.
     pub open_chunk: Option<Chunk>,
     /// Where the next chunk begins.
@@ -38,19 +38,100 @@ pub struct Scrubbing {
 }
 
 impl Scrubbing {
-    /// A scrub more begins, and runs.
+    /// A scrub more begins, and reserves.
     pub fn begin(&mut self, kind: Kind) -> u64
         requires { self.old.begun + 1 < 2 ^ 64 }
         ensures number { result ≡ self.old.begun + 1 }
-        ensures kept { self.new ≡ record self.old { begun = self.old.begun + 1; running = Some (self.old.begun + 1); start = Min; used = 0; kind = Some kind } }
+        ensures kept { self.new ≡ record self.old { begun = self.old.begun + 1; current = Some (record { serial = self.old.begun + 1; claims = Some 0 }); start = Min; used = 0; kind = Some kind } }
     {
         let serial = self.begun + 1;
         self.begun = serial;
-        self.running = Some(serial);
+        self.current = Some(Current {
+            serial,
+            claims: Some(0),
+        });
         self.start = Bound::Min;
         self.used = 0;
         self.kind = Some(kind);
         serial
+    }
+
+    /// The number of the scrub that reserves or runs.
+    pub fn present(&self) -> Option<u64>
+        ensures { result ≡ serial_of self.now.current }
+    {
+        match self.current {
+            Some(scrub) => Some(scrub.serial),
+            None => None,
+        }
+    }
+
+    /// The number of the scrub that runs.
+    pub fn running(&self) -> Option<u64>
+        ensures { result ≡ running_of self.now.current }
+    {
+        let Some(scrub) = self.current else {
+            return None;
+        };
+        match scrub.claims {
+            Some(_) => None,
+            None => Some(scrub.serial),
+        }
+    }
+
+    /// Where the scrub that reserves claims next.
+    pub fn claims(&self) -> Option<u64>
+        ensures { result ≡ claims_of self.now.current }
+    {
+        match self.current {
+            Some(scrub) => scrub.claims,
+            None => None,
+        }
+    }
+
+    /// The scrub claims one place further.
+    pub fn further(&mut self)
+        requires { IfSome (claims_of self.old.current) (λ place. place + 1 < 2 ^ 64) }
+        ensures { self.new ≡ record self.old { current = further self.old.current } }
+    {
+        let Some(scrub) = self.current else {
+            return;
+        };
+        let Some(place) = scrub.claims else {
+            return;
+        };
+        self.current = Some(Current {
+            serial: scrub.serial,
+            claims: Some(place + 1),
+        });
+    }
+
+    /// The scrub runs.
+    pub fn ready(&mut self)
+        ensures { self.new ≡ record self.old { current = ready self.old.current } }
+    {
+        let Some(scrub) = self.current else {
+            return;
+        };
+        self.current = Some(Current {
+            serial: scrub.serial,
+            claims: None,
+        });
+    }
+
+    /// No scrub reserves any more.
+    pub fn give_up(&mut self)
+        ensures { self.new ≡ record self.old { current = None } }
+    {
+        self.current = None;
+    }
+
+    /// No scrub reserves or runs any more, and no chunk is open.
+    pub fn stop(&mut self)
+        ensures { self.new ≡ record self.old { current = None; open_chunk = None } }
+    {
+        self.current = None;
+        self.open_chunk = None;
     }
 
     /// A chunk more is open.
@@ -133,7 +214,7 @@ impl Scrubbing {
         self.used += 1;
     }
 
-    /// What a member is asked for, where a chunk is open.
+    /// What an acting member is asked for, where a chunk is open.
     pub fn ask(&self) -> Result<Option<Ask>, AllocError>
         ensures { IfOk result (λ ask. ask ≡ ask_of self.now.open_chunk (is_deep self.now.kind)) }
     {
@@ -225,7 +306,7 @@ impl Scrubbing {
         };
         let to = end_of(chunk);
         let completes = is_greatest(&to);
-        self.running = if completes { None } else { self.running };
+        self.current = if completes { None } else { self.current };
         self.start = to;
         completes
     }

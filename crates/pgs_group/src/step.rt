@@ -2,11 +2,15 @@ use crate::admitted::Admitted;
 use crate::close_told::CloseTold;
 use crate::pulled::Pulled;
 use pgs_chunk::Kind;
-use pgs_history::{BeginAnswer, CollectAnswer, OpenAnswer, TakeAnswer, WriteAnswer};
+use pgs_history::{
+    BeginAnswer, CollectAnswer, FaultAnswer, IntervalAnswer, OpenAnswer, ReserveAnswer, TakeAnswer,
+    WriteAnswer,
+};
 use pgs_map::ScrubMap;
 use pgs_name::ObjectId;
 use pgs_op::Write;
 use pgs_request::ReqId;
+use pgs_slots::Holder;
 use sqlite_items::Items;
 
 /// What is asked of a group.
@@ -35,7 +39,13 @@ pub enum Step {
     Begin {
         kind: Kind,
     },
-    /// A chunk of the running scrub is to be opened; the positions are the primary's.
+    /// A scrub claims a slot of an OSD, where one is free; else these scrubs hold them.
+    Reserve {
+        serial: u64,
+        osd: u32,
+        denied: Option<Items<Holder>>,
+    },
+    /// A chunk of a scrub is to be opened; the positions are the primary's.
     Open {
         serial: u64,
         listed: Items<ObjectId>,
@@ -49,6 +59,17 @@ pub enum Step {
     Close {
         chunk: u64,
     },
+    /// A device failed a call for a scrub: of a chunk's scan, or of a listing where the chunk is 0.
+    Fault {
+        serial: u64,
+        chunk: u64,
+        osd: u32,
+        count: u64,
+    },
+    /// Other members are to act.
+    Interval {
+        acting: Items<u32>,
+    },
 }
 
 /// What a group answers to a step of the same kind.
@@ -60,7 +81,10 @@ pub enum Answer {
     Pull { pulled: Pulled },
     Tell { applied: u64 },
     Begin { answer: BeginAnswer },
+    Reserve { answer: ReserveAnswer },
     Open { answer: OpenAnswer },
     Take { answer: TakeAnswer },
     Close { answer: CloseTold },
+    Fault { answer: FaultAnswer },
+    Interval { answer: IntervalAnswer },
 }

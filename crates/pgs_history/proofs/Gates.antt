@@ -15,10 +15,12 @@ use Rattle.pgs_history.specs.Legal.{IsLegal}
 use Rattle.pgs_gate.specs.Gate.{verdict_of}
 use Rattle.pgs_history.specs.declared.chunk.Chunk.{Chunk}
 use Rattle.pgs_history.specs.declared.write_answer.WriteAnswer.TheVariants.{Declined, Parked, QueueFull, Accepted}
-use Rattle.pgs_history.specs.declared.open_answer.OpenAnswer.TheVariants.{Already, Opened}
+use Rattle.pgs_history.specs.declared.open_answer.OpenAnswer.TheVariants.{Over, StillReserving, Already, Opened}
 use Rattle.pgs_history.specs.declared.close_answer.CloseAnswer.TheVariants as closes
 use Rattle.pgs_history.specs.declared.event.Event.{Event}
-use Rattle.pgs_history.specs.declared.event.Event.TheVariants.{Submit, Admit, Collect, Pull, Tell, Begin, Open, Take, Close}
+use Rattle.pgs_history.specs.declared.event.Event.TheVariants.{Submit, Admit, Collect, Pull, Tell, Begin, Reserve, Open, Take, Close, Fault, Interval}
+use Rattle.pgs_history.specs.declared.fault_answer.FaultAnswer.TheVariants as faults
+use Rattle.pgs_history.specs.declared.interval_answer.IntervalAnswer.TheVariants as intervals
 use Rattle.pgs_history.specs.declared.made.Made.{Made}
 use Rattle.pgs_history.proofs.Answered.{accepted_is, parked_is, idle_from, admitting_closed, waits_into, outside}
 use Rattle.pgs_history.proofs.Steps.{opened_is}
@@ -65,15 +67,25 @@ waiting made (Collect id version ∷ past) legal = waiting made past legal.2
 waiting made (Pull osd from to asked ∷ past) legal = waiting made past legal.2
 waiting made (Tell osd applied ∷ past) legal = waiting made past legal.2
 waiting made (Begin kind answer ∷ past) legal = waiting made past legal.2
+waiting made (Reserve serial osd denied answer ∷ past) legal = waiting made past legal.2
+waiting made (Open serial listed (Over cause) ∷ past) legal = waiting made past legal.2
+waiting made (Open serial listed (StillReserving osd) ∷ past) legal = waiting made past legal.2
 waiting made (Open serial listed (Already chunk) ∷ past) legal = waiting made past legal.2
 waiting made (Open serial listed (Opened chunk) ∷ past) legal =
-    λ c is. none_held past c (idle_from (open_chunk past) (parked past) legal.0 (opened_is made past serial listed chunk legal.1.2).0)
+    λ c is. none_held past c (idle_from (open_chunk past) (parked past) legal.0 (opened_is made past serial listed chunk legal.1.2).closed)
 waiting made (Take place map answer ∷ past) legal = waiting made past legal.2
 waiting made (Close number closes.NoChunk ∷ past) legal = waiting made past legal.2
 waiting made (Close number closes.ClosedBefore ∷ past) legal = waiting made past legal.2
 waiting made (Close number (closes.Preempted request) ∷ past) legal = waiting made past legal.2
+waiting made (Close number (closes.IntervalChanged old new) ∷ past) legal = waiting made past legal.2
+waiting made (Close number (closes.DeviceFault osd count) ∷ past) legal = waiting made past legal.2
 waiting made (Close number (closes.NotYet osd) ∷ past) legal = waiting made past legal.2
 waiting made (Close number (closes.Closed report completes) ∷ past) legal = λ chunk is. absurd (none_some chunk is)
+waiting made (Fault serial number osd count (faults.Stale now) ∷ past) legal = waiting made past legal.2
+waiting made (Fault serial number osd count faults.Ended ∷ past) legal = λ chunk is. absurd (none_some chunk is)
+waiting made (Interval osds (intervals.LastEpoch old) ∷ past) legal = waiting made past legal.2
+waiting made (Interval osds (intervals.NotCaughtUp osd count total) ∷ past) legal = waiting made past legal.2
+waiting made (Interval osds (intervals.Changed new serial) ∷ past) legal = λ chunk is. absurd (none_some chunk is)
 
 -- ---- nothing of the range above the version
 
@@ -118,9 +130,12 @@ none_above made (Collect id version ∷ past) legal = none_above made past legal
 none_above made (Pull osd from to asked ∷ past) legal = none_above made past legal.2
 none_above made (Tell osd applied ∷ past) legal = none_above made past legal.2
 none_above made (Begin kind answer ∷ past) legal = none_above made past legal.2
+none_above made (Reserve serial osd denied answer ∷ past) legal = none_above made past legal.2
+none_above made (Open serial listed (Over cause) ∷ past) legal = none_above made past legal.2
+none_above made (Open serial listed (StillReserving osd) ∷ past) legal = none_above made past legal.2
 none_above made (Open serial listed (Already chunk) ∷ past) legal = none_above made past legal.2
 none_above made (Open serial listed (Opened chunk) ∷ past) legal =
-    let next = (opened_is made past serial listed chunk legal.1.2).1 in
+    let next = (opened_is made past serial listed chunk legal.1.2).next in
     let version : chunk.version ≡ greatest_in chunk.range (log past) = ap (λ c. c.version) next ∙ ap (λ c. greatest_in c.range (log past)) (sym next) in
     λ c is.
     let same : chunk ≡ c = some_same chunk c is in
@@ -129,5 +144,12 @@ none_above made (Take place map answer ∷ past) legal = none_above made past le
 none_above made (Close number closes.NoChunk ∷ past) legal = none_above made past legal.2
 none_above made (Close number closes.ClosedBefore ∷ past) legal = none_above made past legal.2
 none_above made (Close number (closes.Preempted request) ∷ past) legal = none_above made past legal.2
+none_above made (Close number (closes.IntervalChanged old new) ∷ past) legal = none_above made past legal.2
+none_above made (Close number (closes.DeviceFault osd count) ∷ past) legal = none_above made past legal.2
 none_above made (Close number (closes.NotYet osd) ∷ past) legal = none_above made past legal.2
 none_above made (Close number (closes.Closed report completes) ∷ past) legal = λ chunk is. absurd (none_some chunk is)
+none_above made (Fault serial number osd count (faults.Stale now) ∷ past) legal = none_above made past legal.2
+none_above made (Fault serial number osd count faults.Ended ∷ past) legal = λ chunk is. absurd (none_some chunk is)
+none_above made (Interval osds (intervals.LastEpoch old) ∷ past) legal = none_above made past legal.2
+none_above made (Interval osds (intervals.NotCaughtUp osd count total) ∷ past) legal = none_above made past legal.2
+none_above made (Interval osds (intervals.Changed new serial) ∷ past) legal = λ chunk is. absurd (none_some chunk is)

@@ -15,7 +15,7 @@ use Rattle.pgs_history.specs.Legal.{IsLegal}
 use Rattle.pgs_history.specs.Facts.{AreDistinct, times}
 use Rattle.pgs_history.specs.declared.write_answer.WriteAnswer.TheVariants.{Declined, Parked, QueueFull, Accepted}
 use Rattle.pgs_history.specs.declared.event.Event.{Event}
-use Rattle.pgs_history.specs.declared.event.Event.TheVariants.{Submit, Admit, Collect, Pull, Tell, Begin, Open, Take, Close}
+use Rattle.pgs_history.specs.declared.event.Event.TheVariants.{Submit, Admit, Collect, Pull, Tell, Begin, Reserve, Open, Take, Close, Fault, Interval}
 use Rattle.pgs_history.specs.declared.made.Made.{Made}
 use Rattle.pgs_history.proofs.Answered.{accepted_is, admitted_is, parked_is, IsFirst, first_is, apart_is}
 use Rattle.pgs_history.proofs.New.{new_logged, new_last, new_rest, new_admitted, first_new}
@@ -39,6 +39,9 @@ numbered made (Begin kind answer ∷ past) legal = numbered made past legal.2
 numbered made (Open serial listed answer ∷ past) legal = numbered made past legal.2
 numbered made (Take place map answer ∷ past) legal = numbered made past legal.2
 numbered made (Close chunk answer ∷ past) legal = numbered made past legal.2
+numbered made (Reserve serial osd denied answer ∷ past) legal = numbered made past legal.2
+numbered made (Fault serial number osd count answer ∷ past) legal = numbered made past legal.2
+numbered made (Interval osds answer ∷ past) legal = numbered made past legal.2
 
 -- ---- ids
 
@@ -104,6 +107,9 @@ apart made (Begin kind answer ∷ past) legal = same_apart past (Begin kind answ
 apart made (Open serial listed answer ∷ past) legal = same_apart past (Open serial listed answer ∷ past) refl refl (apart made past legal.2)
 apart made (Take place map answer ∷ past) legal = same_apart past (Take place map answer ∷ past) refl refl (apart made past legal.2)
 apart made (Close chunk answer ∷ past) legal = same_apart past (Close chunk answer ∷ past) refl refl (apart made past legal.2)
+apart made (Reserve serial osd denied answer ∷ past) legal = same_apart past (Reserve serial osd denied answer ∷ past) refl refl (apart made past legal.2)
+apart made (Fault serial number osd count answer ∷ past) legal = same_apart past (Fault serial number osd count answer ∷ past) refl refl (apart made past legal.2)
+apart made (Interval osds answer ∷ past) legal = same_apart past (Interval osds answer ∷ past) refl refl (apart made past legal.2)
 
 pub distinct : (made : Made) (past : List Event) → IsLegal made past → AreDistinct (ids past)
 distinct made past legal = (apart made past legal).logged
@@ -128,6 +134,9 @@ as_many (Begin kind answer ∷ past) = as_many past
 as_many (Open serial listed answer ∷ past) = as_many past
 as_many (Take place map answer ∷ past) = as_many past
 as_many (Close chunk answer ∷ past) = as_many past
+as_many (Reserve serial osd denied answer ∷ past) = as_many past
+as_many (Fault serial number osd count answer ∷ past) = as_many past
+as_many (Interval osds answer ∷ past) = as_many past
 
 times-cons : (entry : ReqId × Version) (entries : List (ReqId × Version)) (id : ReqId)
     → times (entry ∷ entries) id ≡ cond (same_id entry.0 id) 1 0 + times entries id
@@ -185,6 +194,9 @@ version_within made (Begin kind answer ∷ past) id version legal e = version_wi
 version_within made (Open serial listed answer ∷ past) id version legal e = version_within made past id version legal.2 e
 version_within made (Take place map answer ∷ past) id version legal e = version_within made past id version legal.2 e
 version_within made (Close chunk answer ∷ past) id version legal e = version_within made past id version legal.2 e
+version_within made (Reserve serial osd denied answer ∷ past) id version legal e = version_within made past id version legal.2 e
+version_within made (Fault serial number osd count answer ∷ past) id version legal e = version_within made past id version legal.2 e
+version_within made (Interval osds answer ∷ past) id version legal e = version_within made past id version legal.2 e
 
 -- ---- pulls
 
@@ -215,3 +227,6 @@ pulled_within made (Begin kind answer ∷ past) osd legal = pulled_within made p
 pulled_within made (Open serial listed answer ∷ past) osd legal = pulled_within made past osd legal.2
 pulled_within made (Take place map answer ∷ past) osd legal = pulled_within made past osd legal.2
 pulled_within made (Close chunk answer ∷ past) osd legal = pulled_within made past osd legal.2
+pulled_within made (Reserve serial other denied answer ∷ past) osd legal = pulled_within made past osd legal.2
+pulled_within made (Fault serial number other count answer ∷ past) osd legal = pulled_within made past osd legal.2
+pulled_within made (Interval osds answer ∷ past) osd legal = pulled_within made past osd legal.2

@@ -43,7 +43,7 @@ collected_legal made past id (Acked version) e idle legal =
 pub legal_collect : (made : Made) (past : List Event) (id : ReqId) → is_admitting past ≡ false → IsLegal made past → IsLegal made (after_collect made past id)
 legal_collect made past id idle legal = collected_legal made past id (collect_answer made past id) refl idle legal
 
-pulled_legal : (made : Made) (past : List Event) (osd : ℕ) (asked : Option ℕ) → asked ≡ new_ask past osd → is_admitting past ≡ false → IsLegal made past
+pulled_legal : (made : Made) (past : List Event) (osd : ℕ) (asked : Option ℕ) → asked ≡ new_ask made past osd → is_admitting past ≡ false → IsLegal made past
     → IsLegal made (with_pull past osd asked)
 pulled_legal made past osd asked new idle legal =
     let P : Bool → Type 0 = λ v. gives past osd asked ≡ v → IsLegal made (cond v (Pull osd (pulled past osd) (last_number past) asked ∷ past) past) in
@@ -52,8 +52,8 @@ pulled_legal made past osd asked new idle legal =
       | false ↦ λ e. legal
     ]) refl
 
-pub legal_pull : (made : Made) (past : List Event) (osd : ℕ) → is_admitting past ≡ false → IsLegal made past → IsLegal made (after_pull past osd)
-legal_pull made past osd idle legal = pulled_legal made past osd (new_ask past osd) refl idle legal
+pub legal_pull : (made : Made) (past : List Event) (osd : ℕ) → is_admitting past ≡ false → IsLegal made past → IsLegal made (after_pull made past osd)
+legal_pull made past osd idle legal = pulled_legal made past osd (new_ask made past osd) refl idle legal
 
 pub legal_tell : (made : Made) (past : List Event) (osd applied : ℕ) → is_admitting past ≡ false → IsLegal made past → IsLegal made (after_tell past osd applied)
 legal_tell made past osd applied idle legal =
@@ -68,6 +68,8 @@ closed_legal : (made : Made) (past : List Event) (chunk : ℕ) (answer : CloseAn
 closed_legal made past chunk closes.NoChunk e idle legal = (idle, (e, tt), legal)
 closed_legal made past chunk closes.ClosedBefore e idle legal = (idle, (e, tt), legal)
 closed_legal made past chunk (closes.Preempted request) e idle legal = (idle, (e, tt), legal)
+closed_legal made past chunk (closes.IntervalChanged old new) e idle legal = (idle, (e, tt), legal)
+closed_legal made past chunk (closes.DeviceFault osd count) e idle legal = (idle, (e, tt), legal)
 closed_legal made past chunk (closes.NotYet osd) e idle legal = legal
 closed_legal made past chunk (closes.Closed report completes) e idle legal = (idle, (e, tt), legal)
 

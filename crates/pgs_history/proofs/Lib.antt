@@ -6,6 +6,8 @@ pub mod Ids
 pub mod Weighed
 pub mod Held
 pub mod Steps
+pub mod Causes
+pub mod Joined
 pub mod Gates
 pub mod Fates
 pub mod Rows

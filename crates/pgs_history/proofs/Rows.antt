@@ -17,23 +17,28 @@ use Rattle.pgs_chunk.proofs.Chunks.{chunk_rises}
 use Rattle.pgs_request.specs.declared.version.Version.{Version}
 use Rattle.pgs_op.specs.declared.write.Write.{Write}
 use Rattle.pgs_compare.specs.declared.report.Report.{Report}
-use Rattle.pgs_history.specs.Scrubs.{begun, running, open_chunk, has_number, end_of, start, limit_now, closed_ranges, with_range, completed, is_of}
+use Rattle.pgs_history.specs.Scrubs.{begun, current, present, serial_of, open_chunk, has_number, end_of, start, limit_now, closed_ranges, with_range, completed, is_of}
 use Rattle.pgs_history.specs.Answers.{is_last, is_greatest, next_chunk}
 use Rattle.pgs_history.specs.Legal.{IsLegal}
 use Rattle.pgs_history.specs.Chunks.{AreTiled}
 use Rattle.pgs_history.specs.declared.made.Made.{Made}
 use Rattle.pgs_history.specs.declared.chunk.Chunk.{Chunk}
 use Rattle.pgs_history.specs.declared.event.Event.{Event}
-use Rattle.pgs_history.specs.declared.event.Event.TheVariants.{Submit, Admit, Collect, Pull, Tell, Begin, Open, Take, Close}
+use Rattle.pgs_history.specs.declared.event.Event.TheVariants.{Submit, Admit, Collect, Pull, Tell, Begin, Reserve, Open, Take, Close, Fault, Interval}
 use Rattle.pgs_history.specs.declared.write_answer.WriteAnswer.TheVariants.{Declined, Parked, QueueFull, Accepted}
 use Rattle.pgs_history.specs.declared.begin_answer.BeginAnswer.TheVariants.{Busy, Began}
-use Rattle.pgs_history.specs.declared.open_answer.OpenAnswer.TheVariants.{Already, Opened}
+use Rattle.pgs_history.specs.declared.open_answer.OpenAnswer.TheVariants.{Over, StillReserving, Already, Opened}
+use Rattle.pgs_history.specs.declared.reserve_answer.ReserveAnswer.TheVariants as reserves
+use Rattle.pgs_history.specs.declared.fault_answer.FaultAnswer.TheVariants as faults
+use Rattle.pgs_history.specs.declared.interval_answer.IntervalAnswer.TheVariants as intervals
+use Rattle.pgs_history.specs.declared.current.Current.{Current}
 use Rattle.pgs_history.specs.declared.close_answer.CloseAnswer.TheVariants as ends
-use Rattle.pgs_history.proofs.Steps.{began_is, opened_is, closed_is}
+use Rattle.pgs_history.proofs.Steps.{began_is, opened_is, denied_is, closed_is}
+use Rattle.pgs_history.proofs.Causes.{present_further, present_ready, caused, denied_closed}
 
--- the open chunk is of the scrub that runs, and begins where that scrub's closed chunks end
+-- the open chunk is of the scrub that reserves or runs, and begins where that scrub's closed chunks end
 pub record IsNow (past : List Event) (chunk : Chunk) : Type 0 where
-  pub runs : running past ≡ Some chunk.serial
+  pub runs : present past ≡ Some chunk.serial
   pub begins : chunk.range.from ≡ start past
   pub rises : is_upto chunk.range.from chunk.range.to ≡ true
 
@@ -42,20 +47,20 @@ pub record IsScrub (past : List Event) (serial : ℕ) : Type 0 where
   pub end : Bound
   pub row : AreInRow Min (closed_ranges past serial) end
   pub whole : completed past serial ≡ true → end ≡ Max
-  pub now : running past ≡ Some serial → (end ≡ start past) × (completed past serial ≡ false)
+  pub now : present past ≡ Some serial → (end ≡ start past) × (completed past serial ≡ false)
   pub fresh : begun past < serial → (closed_ranges past serial ≡ []) × (completed past serial ≡ false)
 
 pub record IsWalk (past : List Event) : Type 0 where
   pub chunk : (c : Chunk) → open_chunk past ≡ Some c → IsNow past c
-  pub known : (serial : ℕ) → running past ≡ Some serial → serial ≤ begun past
-  pub below : (serial : ℕ) → running past ≡ Some serial → is_upto Max (start past) ≡ false
+  pub known : (serial : ℕ) → present past ≡ Some serial → serial ≤ begun past
+  pub below : (serial : ℕ) → present past ≡ Some serial → is_upto Max (start past) ≡ false
   pub each : (serial : ℕ) → IsScrub past serial
 
 -- ---- events that leave the scrubs as they are
 
 pub record AreAlike (past new : List Event) : Type 0 where
   pub begins : begun new ≡ begun past
-  pub runs : running new ≡ running past
+  pub runs : present new ≡ present past
   pub opens : open_chunk new ≡ open_chunk past
   pub starts : start new ≡ start past
   pub ranges : (serial : ℕ) → closed_ranges new serial ≡ closed_ranges past serial
@@ -75,7 +80,7 @@ stays past new a h = record {
   };
 }
 
-alike : (past : List Event) (event : Event) → begun (event ∷ past) ≡ begun past → running (event ∷ past) ≡ running past → open_chunk (event ∷ past) ≡ open_chunk past
+alike : (past : List Event) (event : Event) → begun (event ∷ past) ≡ begun past → present (event ∷ past) ≡ present past → open_chunk (event ∷ past) ≡ open_chunk past
     → start (event ∷ past) ≡ start past → ((serial : ℕ) → closed_ranges (event ∷ past) serial ≡ closed_ranges past serial)
     → ((serial : ℕ) → completed (event ∷ past) serial ≡ completed past serial) → IsWalk past → IsWalk (event ∷ past)
 alike past event b r o s ranges c h = stays past (event ∷ past) (record { begins = b; runs = r; opens = o; starts = s; ranges = ranges; completes = c }) h
@@ -89,10 +94,27 @@ gives_way past write version number h = record {
   each = λ serial. let s = h.each serial in record { end = s.end; row = s.row; whole = s.whole; now = s.now; fresh = s.fresh };
 }
 
+-- a scrub ends, and with it the chunk that is open, if one is
+stops : (past : List Event) (event : Event) → begun (event ∷ past) ≡ begun past → present (event ∷ past) ≡ None → ((c : Chunk) → open_chunk (event ∷ past) ≡ Some c → ⊥)
+    → ((serial : ℕ) → closed_ranges (event ∷ past) serial ≡ closed_ranges past serial)
+    → ((serial : ℕ) → completed (event ∷ past) serial ≡ completed past serial) → IsWalk past → IsWalk (event ∷ past)
+stops past event b none closed ranges done h = record {
+  chunk = λ c is. absurd (closed c is);
+  known = λ serial is. absurd (none_some serial (sym none ∙ is));
+  below = λ serial is. absurd (none_some serial (sym none ∙ is));
+  each = λ serial. let s = h.each serial in record {
+    end = s.end;
+    row = subst (λ rs. AreInRow Min rs s.end) (sym (ranges serial)) s.row;
+    whole = λ e. s.whole (sym (done serial) ∙ e);
+    now = λ e. absurd (none_some serial (sym none ∙ e));
+    fresh = λ e. let f = s.fresh (subst (λ k. k < serial) b e) in (ranges serial ∙ f.0, done serial ∙ f.1);
+  };
+}
+
 -- ---- a scrub more
 
-begins : (past : List Event) (kind : _) (serial : ℕ) → running past ≡ None → serial ≡ begun past + 1 → IsWalk past → IsWalk (Begin kind (Began serial) ∷ past)
-begins past kind serial none next h = record {
+begins : (past : List Event) (kind : _) (serial first : ℕ) → present past ≡ None → serial ≡ begun past + 1 → IsWalk past → IsWalk (Begin kind (Began serial first) ∷ past)
+begins past kind serial first none next h = record {
   chunk = λ c is. absurd (none_some c.serial (sym none ∙ (h.chunk c is).runs));
   known = λ other is. let same : other ≡ serial = some_same other serial (sym is) in omega (arith, same, next);
   below = λ other is. refl;
@@ -119,7 +141,7 @@ not_upto a b e = turned (bound_cmp a b) (bound_cmp b a) (bound_total.antisymm b 
     turned Equal p r e = absurd (true_false e)
     turned Greater p r e = ap is_le r
 
-opens : (made : Made) (past : List Event) (serial : ℕ) (listed : List ObjectId) (chunk : Chunk) → running past ≡ Some serial → Ascends listed
+opens : (made : Made) (past : List Event) (serial : ℕ) (listed : List ObjectId) (chunk : Chunk) → present past ≡ Some serial → Ascends listed
     → chunk ≡ next_chunk made past serial listed → IsWalk past → IsWalk (Open serial listed (Opened chunk) ∷ past)
 opens made past serial listed chunk runs ascends next h = record {
   chunk = λ c is. subst (IsNow (Open serial listed (Opened chunk) ∷ past)) (sym (some_same c chunk (sym is))) (record {
@@ -144,7 +166,7 @@ not_greatest Min e = refl
 not_greatest (At f) e = refl
 not_greatest Max e = absurd (true_false e)
 
-runs_on : (completes : Bool) (before : Option ℕ) (serial : ℕ) → cond completes None before ≡ Some serial → (completes ≡ false) × (before ≡ Some serial)
+runs_on : (completes : Bool) (before : Option Current) (serial : ℕ) → serial_of (cond completes None before) ≡ Some serial → (completes ≡ false) × (serial_of before ≡ Some serial)
 runs_on true before serial e = absurd (none_some serial e)
 runs_on false before serial e = (refl, e)
 
@@ -164,7 +186,7 @@ module _ (past : List Event) (number : ℕ) (report : Report) (completes : Bool)
     own : (serial : ℕ) → chunk.serial ≡ serial → (chunk.serial == serial) ≡ true → IsScrub new serial
     own serial same test =
         let s = h.each serial in
-        let runs : running past ≡ Some serial = now_is.runs ∙ ap (λ n. Some n) same in
+        let runs : present past ≡ Some serial = now_is.runs ∙ ap (λ n. Some n) same in
         let before = s.now runs in
         let ranges : closed_ranges new serial ≡ chunk.range ∷ closed_ranges past serial =
         ap (λ c. with_range c serial (closed_ranges past serial)) is ∙ ap (λ b. cond b (chunk.range ∷ closed_ranges past serial) (closed_ranges past serial)) test in
@@ -175,7 +197,7 @@ module _ (past : List Event) (number : ℕ) (report : Report) (completes : Bool)
           end = chunk.range.to;
           row = subst (λ rs. AreInRow Min rs chunk.range.to) (sym ranges) (refl, now_is.rises, subst (AreInRow Min (closed_ranges past serial)) (before.0 ∙ sym now_is.begins) s.row);
           whole = λ e. greatest_is chunk.range.to (sym last ∙ (both completes true (sym done ∙ e)).0);
-          now = λ e. let r = runs_on completes (running past) serial e in (ap (λ c. end_of c (start past)) (sym is), done ∙ ap (λ b. b && true) r.0);
+          now = λ e. let r = runs_on completes (current past) serial e in (ap (λ c. end_of c (start past)) (sym is), done ∙ ap (λ b. b && true) r.0);
           fresh = λ e. absurd (let k : serial ≤ begun past = h.known serial runs in omega (arith, k, e));
         }
 
@@ -192,7 +214,7 @@ module _ (past : List Event) (number : ℕ) (report : Report) (completes : Bool)
           row = subst (λ rs. AreInRow Min rs s.end) (sym ranges) s.row;
           whole = λ e. s.whole (sym done ∙ e);
           now = λ e.
-              let r = runs_on completes (running past) serial e in
+              let r = runs_on completes (current past) serial e in
               let same : chunk.serial ≡ serial = some_same chunk.serial serial (sym now_is.runs ∙ r.1) in
               absurd (true_false (sym (same_test chunk.serial serial same) ∙ test));
           fresh = λ e. let f = s.fresh e in (ranges ∙ f.0, done ∙ f.1);
@@ -209,9 +231,9 @@ module _ (past : List Event) (number : ℕ) (report : Report) (completes : Bool)
     closes : IsWalk new
     closes = record {
       chunk = λ c e. absurd (none_some c e);
-      known = λ serial e. h.known serial (runs_on completes (running past) serial e).1;
+      known = λ serial e. h.known serial (runs_on completes (current past) serial e).1;
       below = λ serial e.
-          let r = runs_on completes (running past) serial e in
+          let r = runs_on completes (current past) serial e in
           ap (λ c. is_upto Max (end_of c (start past))) is ∙ not_greatest chunk.range.to (sym last ∙ r.0);
       each = λ serial.
           let P : Bool → Type 0 = λ v. (chunk.serial == serial) ≡ v → IsScrub new serial in
@@ -244,19 +266,37 @@ walked made (Pull osd from to asked ∷ past) legal = alike past (Pull osd from 
 walked made (Tell osd applied ∷ past) legal = alike past (Tell osd applied) refl refl refl refl (λ s. refl) (λ s. refl) (walked made past legal.2)
 walked made (Take place map answer ∷ past) legal = alike past (Take place map answer) refl refl refl refl (λ s. refl) (λ s. refl) (walked made past legal.2)
 walked made (Begin kind (Busy serial) ∷ past) legal = alike past (Begin kind (Busy serial)) refl refl refl refl (λ s. refl) (λ s. refl) (walked made past legal.2)
-walked made (Begin kind (Began serial) ∷ past) legal =
-    let is = began_is past serial legal.1 in
-    begins past kind serial is.0 is.1 (walked made past legal.2)
+walked made (Begin kind (Began serial first) ∷ past) legal =
+    let is = began_is made past serial first legal.1 in
+    begins past kind serial first is.0 is.1 (walked made past legal.2)
+walked made (Reserve serial osd denied (reserves.Over why) ∷ past) legal = alike past (Reserve serial osd denied (reserves.Over why)) refl refl refl refl (λ s. refl) (λ s. refl) (walked made past legal.2)
+walked made (Reserve serial osd denied (reserves.NotNext next) ∷ past) legal = alike past (Reserve serial osd denied (reserves.NotNext next)) refl refl refl refl (λ s. refl) (λ s. refl) (walked made past legal.2)
+walked made (Reserve serial osd denied (reserves.DeniedNow other) ∷ past) legal =
+    let is = denied_is made past serial osd other denied legal.1.2 in
+    stops past (Reserve serial osd denied (reserves.DeniedNow other)) refl refl (denied_closed made past is.place legal.2 is.claiming) (λ s. refl) (λ s. refl)
+    (walked made past legal.2)
+walked made (Reserve serial osd denied (reserves.Reserving next) ∷ past) legal = alike past (Reserve serial osd denied (reserves.Reserving next)) refl (present_further (current past)) refl refl (λ s. refl) (λ s. refl) (walked made past legal.2)
+walked made (Reserve serial osd denied reserves.Reserved ∷ past) legal = alike past (Reserve serial osd denied reserves.Reserved) refl (present_ready (current past)) refl refl (λ s. refl) (λ s. refl) (walked made past legal.2)
+walked made (Open serial listed (Over why) ∷ past) legal = alike past (Open serial listed (Over why)) refl refl refl refl (λ s. refl) (λ s. refl) (walked made past legal.2)
+walked made (Open serial listed (StillReserving osd) ∷ past) legal = alike past (Open serial listed (StillReserving osd)) refl refl refl refl (λ s. refl) (λ s. refl) (walked made past legal.2)
 walked made (Open serial listed (Already chunk) ∷ past) legal = alike past (Open serial listed (Already chunk)) refl refl refl refl (λ s. refl) (λ s. refl) (walked made past legal.2)
 walked made (Open serial listed (Opened chunk) ∷ past) legal =
-    opens made past serial listed chunk legal.1.0 legal.1.1 (opened_is made past serial listed chunk legal.1.2).1 (walked made past legal.2)
+    let is = opened_is made past serial listed chunk legal.1.2 in
+    opens made past serial listed chunk ((caused made past legal.2).going serial legal.1.0 is.going) legal.1.1 is.next (walked made past legal.2)
 walked made (Close number ends.NoChunk ∷ past) legal = alike past (Close number ends.NoChunk) refl refl refl refl (λ s. refl) (λ s. refl) (walked made past legal.2)
 walked made (Close number ends.ClosedBefore ∷ past) legal = alike past (Close number ends.ClosedBefore) refl refl refl refl (λ s. refl) (λ s. refl) (walked made past legal.2)
 walked made (Close number (ends.Preempted request) ∷ past) legal = alike past (Close number (ends.Preempted request)) refl refl refl refl (λ s. refl) (λ s. refl) (walked made past legal.2)
+walked made (Close number (ends.IntervalChanged old new) ∷ past) legal = alike past (Close number (ends.IntervalChanged old new)) refl refl refl refl (λ s. refl) (λ s. refl) (walked made past legal.2)
+walked made (Close number (ends.DeviceFault osd count) ∷ past) legal = alike past (Close number (ends.DeviceFault osd count)) refl refl refl refl (λ s. refl) (λ s. refl) (walked made past legal.2)
 walked made (Close number (ends.NotYet osd) ∷ past) legal = absurd legal.1.1
 walked made (Close number (ends.Closed report completes) ∷ past) legal =
     let closed = closed_is made past number report completes legal.1.0 in
     closed_some past number report completes (walked made past legal.2) (open_chunk past) refl closed.was_open closed.last
+walked made (Fault serial number osd count (faults.Stale now) ∷ past) legal = alike past (Fault serial number osd count (faults.Stale now)) refl refl refl refl (λ s. refl) (λ s. refl) (walked made past legal.2)
+walked made (Fault serial number osd count faults.Ended ∷ past) legal = stops past (Fault serial number osd count faults.Ended) refl refl (λ c e. none_some c e) (λ s. refl) (λ s. refl) (walked made past legal.2)
+walked made (Interval osds (intervals.LastEpoch old) ∷ past) legal = alike past (Interval osds (intervals.LastEpoch old)) refl refl refl refl (λ s. refl) (λ s. refl) (walked made past legal.2)
+walked made (Interval osds (intervals.NotCaughtUp osd count total) ∷ past) legal = alike past (Interval osds (intervals.NotCaughtUp osd count total)) refl refl refl refl (λ s. refl) (λ s. refl) (walked made past legal.2)
+walked made (Interval osds (intervals.Changed new gone) ∷ past) legal = stops past (Interval osds (intervals.Changed new gone)) refl refl (λ c e. none_some c e) (λ s. refl) (λ s. refl) (walked made past legal.2)
 
 pub tiled : (made : Made) (past : List Event) → IsLegal made past → AreTiled past
 tiled made past legal serial =

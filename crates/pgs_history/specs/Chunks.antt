@@ -1,12 +1,14 @@
 -- What holds of the scrubs and chunks of a legal history.
-use Rattle.std.specs.Prelude.{ℕ, ◌≡◌, ◌≤◌, ◌<◌, ◌+◌, true, List, [], ◌∷◌, length, Some, is_some, if◌then◌else◌, slice_get}
+use Rattle.std.specs.Prelude.{ℕ, ◌≡◌, ◌≤◌, ◌<◌, ◌+◌, true, List, [], ◌∷◌, length, Some, None, is_some, if◌then◌else◌, slice_get}
 use Rattle.pgs_name.specs.Families.{Family}
 use Rattle.pgs_range.specs.Rows.{AreInRow, times_held}
 use Rattle.pgs_range.specs.declared.bound.Bound.{Bound}
 use Rattle.pgs_range.specs.declared.bound.Bound.TheVariants.{Min, Max}
 use Rattle.pgs_map.specs.Entries.{AreInRange}
-use Rattle.pgs_history.specs.Scrubs.{opened, open_chunk, is_open, ends, fates, ended, closed_ranges, completed}
+use Rattle.pgs_history.specs.Causes.{causes, cause}
+use Rattle.pgs_history.specs.Scrubs.{IsBegun, begun, present, running, opened, open_chunk, is_open, ends, fates, ended, closed_ranges, completed}
 use Rattle.pgs_history.specs.declared.chunk.Chunk.{Chunk}
+use Rattle.pgs_history.specs.declared.made.Made.{Made}
 use Rattle.pgs_history.specs.declared.event.Event.{Event}
 use Rattle.pgs_history.specs.declared.event.Event.TheVariants.{Take}
 
@@ -21,16 +23,27 @@ abbrev pub AreOrdered : List Event → Type 0
 AreOrdered [] = Unit {0}
 AreOrdered (event ∷ past) = IsOrdered event × AreOrdered past
 
+-- ---- scrubs
+
+-- Each scrub that began has ended by one cause, but for the one that reserves or runs, which is the one that began last: so a scrub has a cause exactly
+-- where it neither reserves nor runs. Where a chunk is open, its scrub runs.
+pub record AreCaused (made : Made) (past : List Event) : Type 0 where
+  pub count : length (causes made past) + (if is_some (present past) then 1 else 0) ≡ begun past
+  pub last : (serial : ℕ) → present past ≡ Some serial → serial ≡ begun past
+  pub going : (serial : ℕ) → IsBegun past serial → cause made past serial ≡ None → present past ≡ Some serial
+  pub gone : (serial : ℕ) → present past ≡ Some serial → cause made past serial ≡ None
+  pub runs : (chunk : Chunk) → open_chunk past ≡ Some chunk → running past ≡ Some chunk.serial
+
 -- ---- fates
 
--- Each chunk that was opened was closed or gave way to a write once, but for the one that is open: so a chunk has at most one fate, and at most one
--- chunk has none. The fates stand in the order of the chunks' numbers.
-pub record AreFated (past : List Event) : Type 0 where
+-- Each chunk that was opened was closed, gave way to a write or ended with its scrub once, but for the one that is open: so a chunk has at most one fate,
+-- and at most one chunk has none. The fates stand in the order of the chunks' numbers.
+pub record AreFated (made : Made) (past : List Event) : Type 0 where
   pub each : (chunk : ℕ) → 1 ≤ chunk → chunk ≤ opened past → ends past chunk ≡ (if is_open past chunk then 0 else 1)
   pub others : (chunk : ℕ) → opened past < chunk → ends past chunk ≡ 0
   pub last : (chunk : Chunk) → open_chunk past ≡ Some chunk → chunk.number ≡ opened past
-  pub count : length (fates past) + (if is_some (open_chunk past) then 1 else 0) ≡ opened past
-  pub told : (place : ℕ) → slice_get (fates past) place ≡ ended past (place + 1)
+  pub count : length (fates made past) + (if is_some (open_chunk past) then 1 else 0) ≡ opened past
+  pub told : (place : ℕ) → slice_get (fates made past) place ≡ ended made past (place + 1)
 
 -- ---- tiles
 

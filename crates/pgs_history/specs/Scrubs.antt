@@ -1,5 +1,5 @@
 -- The scrubs of a group and their chunks, by its events, the newest first.
-use Rattle.std.specs.Prelude.{ℕ, ◌+◌, ◌-◌, ◌==◌, ◌&&◌, ◌||◌, Bool, false, true, List, [], ◌∷◌, ◌++◌, Option, Some, None, if◌then◌else◌, slice_get}
+use Rattle.std.specs.Prelude.{ℕ, ◌≤◌, ◌+◌, ◌-◌, ◌==◌, ◌&&◌, ◌||◌, Bool, false, true, List, [], ◌∷◌, ◌++◌, Option, Some, None, option_map, if◌then◌else◌, slice_get}
 use Rattle.pgs_range.specs.declared.bound.Bound.{Bound}
 use Rattle.pgs_range.specs.declared.bound.Bound.TheVariants.{Min}
 use Rattle.pgs_range.specs.declared.family_range.FamilyRange.{FamilyRange}
@@ -8,6 +8,10 @@ use Rattle.pgs_chunk.specs.declared.kind.Kind.{Kind}
 use Rattle.pgs_chunk.specs.declared.kind.Kind.TheVariants.{Shallow}
 use Rattle.pgs_map.specs.declared.scrub_map.ScrubMap.{ScrubMap}
 use Rattle.pgs_history.specs.declared.begin_answer.BeginAnswer.TheVariants.{Began}
+use Rattle.pgs_history.specs.declared.current.Current.{Current}
+use Rattle.pgs_history.specs.declared.reserve_answer.ReserveAnswer.TheVariants.{DeniedNow, Reserving, Reserved}
+use Rattle.pgs_history.specs.declared.fault_answer.FaultAnswer.TheVariants.{Ended}
+use Rattle.pgs_history.specs.declared.interval_answer.IntervalAnswer.TheVariants.{Changed}
 use Rattle.pgs_history.specs.declared.chunk.Chunk.{Chunk}
 use Rattle.pgs_history.specs.declared.open_answer.OpenAnswer.TheVariants.{Opened}
 use Rattle.pgs_history.specs.declared.take_answer.TakeAnswer.TheVariants.{Taken}
@@ -16,13 +20,14 @@ use Rattle.pgs_history.specs.declared.write_answer.WriteAnswer.TheVariants.{Acce
 use Rattle.pgs_history.specs.declared.fate.Fate.{Fate}
 use Rattle.pgs_history.specs.declared.fate.Fate.TheVariants as fates_are
 use Rattle.pgs_history.specs.declared.event.Event.{Event}
-use Rattle.pgs_history.specs.declared.event.Event.TheVariants.{Submit, Begin, Open, Take, Close}
+use Rattle.pgs_history.specs.declared.event.Event.TheVariants.{Submit, Begin, Reserve, Open, Take, Close, Fault, Interval}
 use Rattle.pgs_history.specs.declared.made.Made.{Made}
+use Rattle.pgs_history.specs.Acting.{acting, epoch, osd_at}
 
 -- ---- scrubs
 
 abbrev pub begun_after : Event → ℕ → ℕ
-begun_after (Begin kind (Began serial)) count = count + 1
+begun_after (Begin kind (Began serial first)) count = count + 1
 begun_after event count = count
 
 -- how many scrubs began, which is the last one's number
@@ -30,18 +35,72 @@ abbrev pub begun : List Event → ℕ
 begun [] = 0
 begun (event ∷ past) = begun_after event (begun past)
 
-abbrev pub running_after : Event → Option ℕ → Option ℕ
-running_after (Begin kind (Began serial)) before = Some serial
-running_after (Close chunk (Closed report completes)) before = if completes then None else before
-running_after event before = before
+-- a number of a scrub that began
+abbrev pub IsBegun : List Event → ℕ → Type 0
+IsBegun past serial = (1 ≤ serial) × (serial ≤ begun past)
 
--- the scrub that runs: from when it began until a chunk's close completes it
+-- it claims one place further
+abbrev pub further : Option Current → Option Current
+further None = None
+further (Some scrub) = Some (record scrub { claims = option_map (λ place. place + 1) scrub.claims })
+
+-- it runs
+abbrev pub ready : Option Current → Option Current
+ready None = None
+ready (Some scrub) = Some (record scrub { claims = None })
+
+abbrev pub current_after : Event → Option Current → Option Current
+current_after (Begin kind (Began serial first)) before = Some (record { serial = serial; claims = Some 0 })
+current_after (Reserve serial osd denied (Reserving next)) before = further before
+current_after (Reserve serial osd denied Reserved) before = ready before
+current_after (Reserve serial osd denied (DeniedNow other)) before = None
+current_after (Close chunk (Closed report completes)) before = if completes then None else before
+current_after (Fault serial chunk osd count Ended) before = None
+current_after (Interval osds (Changed new ends)) before = None
+current_after event before = before
+
+-- The scrub that reserves or runs. It reserves from when it began, claims at one acting OSD after another, and runs from when it claimed at the last. It
+-- ends where a claim is denied, where a chunk's close completes it, where a device fails, and where the acting list changes.
+abbrev pub current : List Event → Option Current
+current [] = None
+current (event ∷ past) = current_after event (current past)
+
+-- the number of a scrub, if there is one
+abbrev pub serial_of : Option Current → Option ℕ
+serial_of now = option_map (λ scrub. scrub.serial) now
+
+-- where a scrub claims next, if there is one and it reserves
+abbrev pub claims_of : Option Current → Option ℕ
+claims_of None = None
+claims_of (Some scrub) = scrub.claims
+
+abbrev pub unless_claiming : Option ℕ → ℕ → Option ℕ
+unless_claiming None serial = Some serial
+unless_claiming (Some place) serial = None
+
+-- the number of a scrub, if there is one and it runs
+abbrev pub running_of : Option Current → Option ℕ
+running_of None = None
+running_of (Some scrub) = unless_claiming scrub.claims scrub.serial
+
+-- the number of the scrub that reserves or runs
+abbrev pub present : List Event → Option ℕ
+present past = serial_of (current past)
+
+-- that of the scrub that runs
 abbrev pub running : List Event → Option ℕ
-running [] = None
-running (event ∷ past) = running_after event (running past)
+running past = running_of (current past)
+
+-- the place in the acting list at which the scrub that reserves claims next
+abbrev pub claims : List Event → Option ℕ
+claims past = claims_of (current past)
+
+-- and the OSD there
+abbrev pub claims_at : Made → List Event → Option ℕ
+claims_at made past = option_map (osd_at (acting made past)) (claims past)
 
 abbrev pub kind_after : Event → Option Kind → Option Kind
-kind_after (Begin kind (Began serial)) before = Some kind
+kind_after (Begin kind (Began serial first)) before = Some kind
 kind_after event before = before
 
 -- the kind of the scrub that began last
@@ -70,9 +129,11 @@ abbrev pub open_after : Event → Option Chunk → Option Chunk
 open_after (Open serial listed (Opened chunk)) before = Some chunk
 open_after (Close number (Closed report completes)) before = None
 open_after (Submit write (Accepted version (Some chunk))) before = None
+open_after (Fault serial chunk osd count Ended) before = None
+open_after (Interval osds (Changed new ends)) before = None
 open_after event before = before
 
--- the chunk that is open: from when it was opened until it is closed, or gives way to a write
+-- the chunk that is open: from when it was opened until it is closed or gives way to a write, or its scrub ends
 abbrev pub open_chunk : List Event → Option Chunk
 open_chunk [] = None
 open_chunk (event ∷ past) = open_after event (open_chunk past)
@@ -81,6 +142,10 @@ open_chunk (event ∷ past) = open_after event (open_chunk past)
 abbrev pub has_number : Option Chunk → ℕ → Bool
 has_number None number = false
 has_number (Some chunk) number = chunk.number == number
+
+-- the number of the chunk that is open
+abbrev pub open_number : List Event → Option ℕ
+open_number past = option_map (λ chunk. chunk.number) (open_chunk past)
 
 -- whether the chunk of a number is open
 abbrev pub is_open : List Event → ℕ → Bool
@@ -94,7 +159,7 @@ end_of None before = before
 end_of (Some chunk) before = chunk.range.to
 
 abbrev pub start_after : Event → Option Chunk → Bound → Bound
-start_after (Begin kind (Began serial)) chunk before = Min
+start_after (Begin kind (Began serial first)) chunk before = Min
 start_after (Close number (Closed report completes)) chunk before = end_of chunk before
 start_after event chunk before = before
 
@@ -104,7 +169,7 @@ start [] = Min
 start (event ∷ past) = start_after event (open_chunk past) (start past)
 
 abbrev pub used_after : Event → ℕ → ℕ
-used_after (Begin kind (Began serial)) count = 0
+used_after (Begin kind (Began serial first)) count = 0
 used_after (Submit write (Accepted version (Some chunk))) count = count + 1
 used_after event count = count
 
@@ -146,43 +211,54 @@ abbrev pub closed_ranges : List Event → ℕ → List FamilyRange
 closed_ranges [] serial = []
 closed_ranges (event ∷ past) serial = closed_after event (open_chunk past) serial (closed_ranges past serial)
 
-abbrev pub ends_after : Event → ℕ → ℕ → ℕ
-ends_after (Close number (Closed report completes)) chunk count = if number == chunk then count + 1 else count
-ends_after (Submit write (Accepted version (Some number))) chunk count = if number == chunk then count + 1 else count
-ends_after event chunk count = count
+abbrev pub ends_after : Event → Option Chunk → ℕ → ℕ → ℕ
+ends_after (Close number (Closed report completes)) now chunk count = if number == chunk then count + 1 else count
+ends_after (Submit write (Accepted version (Some number))) now chunk count = if number == chunk then count + 1 else count
+ends_after (Fault serial number osd times Ended) now chunk count = if has_number now chunk then count + 1 else count
+ends_after (Interval osds (Changed new serial)) now chunk count = if has_number now chunk then count + 1 else count
+ends_after event now chunk count = count
 
--- how often a chunk was closed or gave way to a write
+-- how often a chunk was closed, gave way to a write or ended with its scrub
 abbrev pub ends : List Event → ℕ → ℕ
 ends [] chunk = 0
-ends (event ∷ past) chunk = ends_after event chunk (ends past chunk)
+ends (event ∷ past) chunk = ends_after event (open_chunk past) chunk (ends past chunk)
 
-abbrev pub fates_after : Event → List Fate → List Fate
-fates_after (Close number (Closed report completes)) fates = fates ++ fates_are.Closed ∷ []
-fates_after (Submit write (Accepted version (Some number))) fates = fates ++ fates_are.Preempted write.id ∷ []
-fates_after event fates = fates
+-- one fate more, where a chunk is open
+abbrev pub with_fate : Option Chunk → Fate → List Fate → List Fate
+with_fate None fate fates = fates
+with_fate (Some chunk) fate fates = fates ++ fate ∷ []
+
+abbrev pub fates_after : Event → ℕ → Option Chunk → List Fate → List Fate
+fates_after (Close number (Closed report completes)) old now fates = fates ++ fates_are.Closed ∷ []
+fates_after (Submit write (Accepted version (Some number))) old now fates = fates ++ fates_are.Preempted write.id ∷ []
+fates_after (Fault serial number osd count Ended) old now fates = with_fate now (fates_are.DeviceFault osd count) fates
+fates_after (Interval osds (Changed new serial)) old now fates = with_fate now (fates_are.IntervalChanged old new) fates
+fates_after event old now fates = fates
 
 -- what ended the chunks, in the order of their numbers: each but the one that is open has a fate
-abbrev pub fates : List Event → List Fate
-fates [] = []
-fates (event ∷ past) = fates_after event (fates past)
+abbrev pub fates : Made → List Event → List Fate
+fates made [] = []
+fates made (event ∷ past) = fates_after event (epoch made past) (open_chunk past) (fates made past)
 
 -- what ended the chunk of a number
-abbrev pub fate : List Event → ℕ → Option Fate
-fate past chunk = slice_get (fates past) (chunk - 1)
+abbrev pub fate : Made → List Event → ℕ → Option Fate
+fate made past chunk = slice_get (fates made past) (chunk - 1)
 
 abbrev pub or_first : Option Fate → Fate → Option Fate
 or_first None now = Some now
 or_first (Some earlier) now = Some earlier
 
-abbrev pub ended_after : Event → ℕ → Option Fate → Option Fate
-ended_after (Close number (Closed report completes)) chunk before = if number == chunk then or_first before fates_are.Closed else before
-ended_after (Submit write (Accepted version (Some number))) chunk before = if number == chunk then or_first before (fates_are.Preempted write.id) else before
-ended_after event chunk before = before
+abbrev pub ended_after : Event → ℕ → Option Chunk → ℕ → Option Fate → Option Fate
+ended_after (Close number (Closed report completes)) old now chunk before = if number == chunk then or_first before fates_are.Closed else before
+ended_after (Submit write (Accepted version (Some number))) old now chunk before = if number == chunk then or_first before (fates_are.Preempted write.id) else before
+ended_after (Fault serial number osd count Ended) old now chunk before = if has_number now chunk then or_first before (fates_are.DeviceFault osd count) else before
+ended_after (Interval osds (Changed new serial)) old now chunk before = if has_number now chunk then or_first before (fates_are.IntervalChanged old new) else before
+ended_after event old now chunk before = before
 
--- the first event that closed a chunk, or that it gave way to
-abbrev pub ended : List Event → ℕ → Option Fate
-ended [] chunk = None
-ended (event ∷ past) chunk = ended_after event chunk (ended past chunk)
+-- the first event that closed a chunk, that it gave way to, or that ended its scrub while it was open
+abbrev pub ended : Made → List Event → ℕ → Option Fate
+ended made [] chunk = None
+ended made (event ∷ past) chunk = ended_after event (epoch made past) (open_chunk past) chunk (ended made past chunk)
 
 -- a chunk is there and is of this scrub
 abbrev pub is_of : Option Chunk → ℕ → Bool

@@ -13,6 +13,20 @@ pub enum CloseAnswer {
         /// The write's request.
         request: ReqId,
     },
+    /// A change of the acting list ended it.
+    IntervalChanged {
+        /// The epoch before.
+        old: u32,
+        /// The epoch then.
+        new: u32,
+    },
+    /// A device failed, and that ended it.
+    DeviceFault {
+        /// Its OSD.
+        osd: u32,
+        /// How many calls of it had failed.
+        count: u64,
+    },
     /// An acting OSD's map is missing.
     NotYet {
         /// The first such OSD.

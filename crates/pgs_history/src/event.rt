@@ -1,6 +1,9 @@
 use crate::begin_answer::BeginAnswer;
 use crate::close_answer::CloseAnswer;
+use crate::fault_answer::FaultAnswer;
+use crate::interval_answer::IntervalAnswer;
 use crate::open_answer::OpenAnswer;
+use crate::reserve_answer::ReserveAnswer;
 use crate::take_answer::TakeAnswer;
 use crate::write_answer::WriteAnswer;
 use pgs_chunk::Kind;
@@ -8,6 +11,7 @@ use pgs_map::ScrubMap;
 use pgs_name::ObjectId;
 use pgs_op::Write;
 use pgs_request::{ReqId, Version};
+use pgs_slots::Holder;
 use sqlite_items::Items;
 
 /// A kept event of a group. Answers that change nothing and are asked for again are no events.
@@ -59,6 +63,17 @@ pub enum Event {
         /// Its answer.
         answer: BeginAnswer,
     },
+    /// A scrub claimed a slot of an OSD.
+    Reserve {
+        /// The scrub.
+        serial: u64,
+        /// The OSD.
+        osd: u32,
+        /// What the OSD's slots held, where none was free.
+        denied: Option<Items<Holder>>,
+        /// Its answer.
+        answer: ReserveAnswer,
+    },
     /// A chunk of a scrub was to be opened.
     Open {
         /// The scrub.
@@ -83,5 +98,25 @@ pub enum Event {
         chunk: u64,
         /// Its answer.
         answer: CloseAnswer,
+    },
+    /// A device failed a call for a scrub.
+    Fault {
+        /// The scrub.
+        serial: u64,
+        /// The chunk that was scanned, or 0 where positions were listed.
+        chunk: u64,
+        /// The device's OSD.
+        osd: u32,
+        /// How many calls of the device had failed.
+        count: u64,
+        /// Its answer.
+        answer: FaultAnswer,
+    },
+    /// Other members were to act.
+    Interval {
+        /// Those members, in order; the first is the primary.
+        acting: Items<u32>,
+        /// Its answer.
+        answer: IntervalAnswer,
     },
 }

@@ -10,4 +10,18 @@ pub enum Fate {
         /// The write's request.
         request: ReqId,
     },
+    /// A change of the acting list.
+    IntervalChanged {
+        /// The epoch before.
+        old: u32,
+        /// The epoch then.
+        new: u32,
+    },
+    /// A device that failed.
+    DeviceFault {
+        /// Its OSD.
+        osd: u32,
+        /// How many calls of it had failed.
+        count: u64,
+    },
 }

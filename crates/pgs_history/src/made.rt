@@ -8,7 +8,7 @@ pub struct Made {
     pub number: u32,
     /// The epoch in which it began.
     pub epoch: u32,
-    /// Its members, each once. All of them are acting, and the first is the primary.
+    /// Its members, each once. At first all of them are acting, in this order, and the first acting one is the primary.
     pub members: Items<u32>,
     /// How it is scrubbed.
     pub limits: Limits,

@@ -4,7 +4,7 @@ use Rattle.pgs_words.specs.Forms.{Form, Row, Spelling, field, last, said, row, b
 use Rattle.pgs_words.specs.Fields.{number}
 use Rattle.pgs_request.specs.declared.op.Op.{Op}
 use Rattle.pgs_lines.specs.Contexts.{context}
-use Rattle.pgs_lines.specs.Objects.{op, snap, kind, named}
+use Rattle.pgs_lines.specs.Objects.{op, snap, kind, rank, members_form, named}
 use Rattle.pgs_lines.specs.Damages.{damage}
 use Rattle.pgs_lines.specs.declared.context.Context.{Context}
 use Rattle.pgs_lines.specs.declared.damage.Damage.{Damage}
@@ -39,6 +39,14 @@ damage_form = field number (field number (named (field snap damage)))
 abbrev pub damage_of : ℕ × (ℕ × (List ℕ × (List ℕ × (List ℕ × (Snap × Damage))))) → Basic
 damage_of x = basics.Damage x.0 x.1.0 (record { space = x.1.1.0; key = x.1.1.1.0; name = x.1.1.1.1.0 }) x.1.1.1.1.1.0 x.1.1.1.1.1.1
 
+-- G OSD OSD ..
+abbrev pub interval_form : Form (ℕ × List ℕ)
+interval_form = field number members_form
+
+-- G KIND RANK MOMENT
+abbrev pub job_form : Form (ℕ × (Kind × (ℕ × ℕ)))
+job_form = field number (field kind (field rank (last number)))
+
 abbrev pub basic_said : Basic → Spelling
 basic_said (basics.Write client serial o c p) = said (codes "write") write_form (client, (serial, (o.space, (o.key, (o.name, (c, p))))))
 basic_said (basics.Collect group client serial) = said (codes "collect") collect_form (group, (client, serial))
@@ -51,6 +59,26 @@ basic_said (basics.Open group) = said (codes "open") (last number) group
 basic_said (basics.Scan group osd) = said (codes "scan") member_form (group, osd)
 basic_said (basics.Take group osd) = said (codes "take") member_form (group, osd)
 basic_said (basics.Close group) = said (codes "close") (last number) group
+basic_said (basics.Interval group acting) = said (codes "interval") interval_form (group, acting)
+basic_said (basics.Claim group) = said (codes "claim") (last number) group
+basic_said (basics.Release group osd) = said (codes "release") member_form (group, osd)
+basic_said (basics.Job group k r moment) = said (codes "job") job_form (group, (k, (r, moment)))
+basic_said (basics.Unjob group) = said (codes "unjob") (last number) group
+basic_said (basics.Pick moment) = said (codes "pick") (last number) moment
+
+-- the steps that say who acts and which scrubs may begin
+unfoldable pub plan_rows : List (Row Basic)
+plan_rows =
+    row (codes "interval") interval_form (λ x. basics.Interval x.0 x.1)
+    ∷ row (codes "claim") (last number) (λ x. basics.Claim x)
+    ∷ row (codes "release") member_form (λ x. basics.Release x.0 x.1)
+    ∷ row (codes "job") job_form (λ x. basics.Job x.0 x.1.0 x.1.1.0 x.1.1.1)
+    ∷ row (codes "unjob") (last number) (λ x. basics.Unjob x)
+    ∷ row (codes "pick") (last number) (λ x. basics.Pick x)
+    ∷ []
+
+unfoldable pub plan_read : List ℕ → List (List ℕ) → Option Basic
+plan_read word words = by_rows plan_rows no_row word words
 
 -- the steps of a scrub
 unfoldable pub scrub_rows : List (Row Basic)
@@ -63,7 +91,7 @@ scrub_rows =
     ∷ []
 
 unfoldable pub scrub_read : List ℕ → List (List ℕ) → Option Basic
-scrub_read word words = by_rows scrub_rows no_row word words
+scrub_read word words = by_rows scrub_rows plan_read word words
 
 unfoldable pub basic_rows : List (Row Basic)
 basic_rows =
@@ -90,3 +118,9 @@ damage_read words = option_map damage_of (damage_form.read words)
 
 abbrev pub begin_read : List (List ℕ) → Option Basic
 begin_read words = option_map (λ x. basics.Begin x.0 x.1) (scrub_form.read words)
+
+abbrev pub interval_read : List (List ℕ) → Option Basic
+interval_read words = option_map (λ x. basics.Interval x.0 x.1) (interval_form.read words)
+
+abbrev pub job_read : List (List ℕ) → Option Basic
+job_read words = option_map (λ x. basics.Job x.0 x.1.0 x.1.1.0 x.1.1.1) (job_form.read words)

@@ -1,7 +1,9 @@
 -- How the lines of a script are spelled.
 use Rattle.std.specs.Prelude.{ℕ, ◌&&◌, Bool, nat_le, List, [], ◌∷◌, Option, option_map, codes}
-use Rattle.pgs_words.specs.Forms.{Field, Form, Row, Spelling, parts, nothing, field, last, each, has_some, such_form, kinds, said, row, by_rows}
+use Rattle.pgs_words.specs.Forms.{Field, Form, Row, Spelling, parts, nothing, field, last, kinds, said, row, by_rows}
 use Rattle.pgs_words.specs.Fields.{number, positive}
+use Rattle.pgs_lines.specs.Objects.{call, members_form}
+use Rattle.pgs_lines.specs.declared.call.Call.{Call}
 use Rattle.pgs_lines.specs.Steps.{step_said, step_read}
 use Rattle.pgs_lines.specs.declared.line.Line.{Line}
 use Rattle.pgs_lines.specs.declared.line.Line.TheVariants as lines
@@ -10,18 +12,19 @@ use Rattle.pgs_lines.specs.declared.line.Line.TheVariants as lines
 abbrev pub osd_form : Form (ℕ × ℕ)
 osd_form = field number (last positive)
 
--- one or more OSDs
-abbrev pub members_form : Form (List ℕ)
-members_form = such_form has_some (each number)
-
 -- G EPOCH OSD OSD ..
 abbrev pub group_form : Form (ℕ × (ℕ × List ℕ))
 group_form = field number (field positive members_form)
+
+-- G OSD CALL NTH
+abbrev pub fail_form : Form (ℕ × (ℕ × (Call × ℕ)))
+fail_form = field number (field number (field call (last positive)))
 
 abbrev pub line_said : Line → Spelling
 line_said (lines.Pool bits) = said (codes "pool") (last number) bits
 line_said (lines.Osd osd slots) = said (codes "osd") osd_form (osd, slots)
 line_said (lines.Group group epoch members) = said (codes "group") group_form (group, (epoch, members))
+line_said (lines.Fail group osd c nth) = said (codes "fail") fail_form (group, (osd, (c, nth)))
 line_said (lines.Step step) = step_said step
 line_said lines.End = said (codes "end") nothing tt
 
@@ -30,6 +33,7 @@ line_rows =
     row (codes "pool") (last number) (λ x. lines.Pool x)
     ∷ row (codes "osd") osd_form (λ x. lines.Osd x.0 x.1)
     ∷ row (codes "group") group_form (λ x. lines.Group x.0 x.1.0 x.1.1)
+    ∷ row (codes "fail") fail_form (λ x. lines.Fail x.0 x.1.0 x.1.1.0 x.1.1.1)
     ∷ row (codes "end") nothing (λ x. lines.End)
     ∷ []
 
@@ -59,6 +63,9 @@ osd_read words = option_map (λ x. lines.Osd x.0 x.1) (osd_form.read words)
 
 abbrev pub group_read : List (List ℕ) → Option Line
 group_read words = option_map (λ x. lines.Group x.0 x.1.0 x.1.1) (group_form.read words)
+
+abbrev pub fail_read : List (List ℕ) → Option Line
+fail_read words = option_map (λ x. lines.Fail x.0 x.1.0 x.1.1.0 x.1.1.1) (fail_form.read words)
 
 abbrev pub end_read : List (List ℕ) → Option Line
 end_read words = option_map (λ x. lines.End) (nothing.read words)

@@ -1,6 +1,6 @@
 -- What is done to objects, and the words that name an object.
-use Rattle.std.specs.Prelude.{ℕ, ◌==◌, ◌&&◌, Bool, false, not, List, [], ◌∷◌, length, Option, Some, None, option_map, codes}
-use Rattle.pgs_words.specs.Forms.{Field, Form, Row, Spelling, nothing, field, last, such, seen_field, kinds, said, row, by_rows, no_row, keyword}
+use Rattle.std.specs.Prelude.{ℕ, ◌==◌, ◌&&◌, Bool, false, not, nat_le, List, [], ◌∷◌, length, Option, Some, None, option_map, codes}
+use Rattle.pgs_words.specs.Forms.{Field, Form, Row, Spelling, nothing, field, last, each, has_some, such, such_form, seen_field, kinds, said, row, by_rows, no_row, keyword}
 use Rattle.pgs_words.specs.Fields.{number, positive, word_of, dash_or}
 use Rattle.pgs_request.specs.declared.payload.Payload.{Payload}
 use Rattle.pgs_request.specs.declared.op.Op.{Op}
@@ -10,6 +10,8 @@ use Rattle.pgs_lines.specs.Payload.{payload}
 use Rattle.pgs_lines.specs.declared.kind.Kind.{Kind}
 use Rattle.pgs_lines.specs.declared.kind.Kind.TheVariants.{Shallow, Deep}
 use Rattle.pgs_lines.specs.declared.snap.Snap.{Snap}
+use Rattle.pgs_lines.specs.declared.call.Call.{Call}
+use Rattle.pgs_lines.specs.declared.call.Call.TheVariants as calls
 use Rattle.pgs_lines.specs.declared.snap.Snap.TheVariants as snaps
 
 -- ---- names of attributes and keys
@@ -114,6 +116,35 @@ kind_word Deep = codes "deep"
 
 abbrev pub kind : Field Kind
 kind = keyword kind_word ((codes "shallow", Shallow) ∷ (codes "deep", Deep) ∷ [])
+
+abbrev pub call_word : Call → List ℕ
+call_word calls.List = codes "list"
+call_word calls.Stat = codes "stat"
+call_word calls.Attrs = codes "attrs"
+call_word calls.Read = codes "read"
+call_word calls.Omap = codes "omap"
+call_word calls.Write = codes "write"
+
+abbrev pub calls_of : List (List ℕ × Call)
+calls_of =
+    (codes "list", calls.List)
+    ∷ (codes "stat", calls.Stat)
+    ∷ (codes "attrs", calls.Attrs)
+    ∷ (codes "read", calls.Read)
+    ∷ (codes "omap", calls.Omap)
+    ∷ (codes "write", calls.Write)
+    ∷ []
+
+abbrev pub call : Field Call
+call = keyword call_word calls_of
+
+-- a number of at most 255
+abbrev pub rank : Field ℕ
+rank = such (λ n. nat_le n 255) number
+
+-- one or more numbers of OSDs
+abbrev pub members_form : Form (List ℕ)
+members_form = such_form has_some (each number)
 
 -- ---- SPACE KEY NAME, and then others
 

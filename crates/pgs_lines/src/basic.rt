@@ -4,6 +4,7 @@ use crate::kind::Kind;
 use crate::object::Object;
 use crate::snap::Snap;
 use pgs_request::Op;
+use sqlite_items::Items;
 
 /// A line that does one thing.
 #[derive(Drop)]
@@ -94,5 +95,45 @@ pub enum Basic {
     Close {
         /// The group.
         group: u32,
+    },
+    /// From now on these members of a group act.
+    Interval {
+        /// The group.
+        group: u32,
+        /// The OSDs, at least one. The first is the primary.
+        acting: Items<u32>,
+    },
+    /// A group's scrub claims a slot of the OSD that comes next.
+    Claim {
+        /// The group.
+        group: u32,
+    },
+    /// An OSD gets a slot back that an ended scrub of a group holds.
+    Release {
+        /// The group.
+        group: u32,
+        /// The OSD.
+        osd: u32,
+    },
+    /// A scrub of a group is put into the queue.
+    Job {
+        /// The group.
+        group: u32,
+        /// What the scrub looks at.
+        kind: Kind,
+        /// Its rank, at most 255: lower ones are picked first.
+        rank: u8,
+        /// The moment from which on it may be picked.
+        moment: u32,
+    },
+    /// A group's scrub is taken out of the queue.
+    Unjob {
+        /// The group.
+        group: u32,
+    },
+    /// The next scrub is picked from the queue.
+    Pick {
+        /// The moment.
+        moment: u32,
     },
 }

@@ -2,6 +2,7 @@
 #![tactic(auto)]
 
 mod basic;
+mod call;
 mod context;
 mod damage;
 mod kind;
@@ -12,6 +13,7 @@ mod snap;
 mod step;
 
 pub use basic::Basic;
+pub use call::Call;
 pub use context::Context;
 pub use damage::Damage;
 pub use kind::Kind;

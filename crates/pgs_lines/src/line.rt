@@ -1,3 +1,4 @@
+use crate::call::Call;
 use crate::step::Step;
 use sqlite_items::Items;
 
@@ -24,6 +25,17 @@ pub enum Line {
         epoch: u32,
         /// Its members, at least one. The first is the primary.
         members: Items<u32>,
+    },
+    /// One call of the device by which an OSD stores a group fails.
+    Fail {
+        /// The group.
+        group: u32,
+        /// The OSD.
+        osd: u32,
+        /// What the call does.
+        call: Call,
+        /// Which call of those that do this, from 1.
+        number: u32,
     },
     /// Something is done.
     Step {

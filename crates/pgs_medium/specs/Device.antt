@@ -109,9 +109,13 @@ IsDone item old new = (new ≡ written item old) × IsTold kinds.Write old false
 abbrev pub IsAnswered : Cursor → Bound → Device → Option ObjectId → Device → Type 0
 IsAnswered cursor to old next new = (new ≡ listed old) × IsTold kinds.List old false × IsNext (is_stored old.stored) cursor to next
 
+-- where the calls that are to fail are told, a fault is counted once
+abbrev pub IsCounted : Device → Device → Type 0
+IsCounted old new = IfSome old.failing (λ calls. new.faults ≡ one_more old.faults)
+
 -- a call of a kind failed: where the calls that are to fail are told, they name it
 abbrev pub IsFailed : CallKind → Device → Device → Type 0
-IsFailed kind old new = (new ≡ not_answered kind new.faults old) × Rose old.faults new.faults × IsTold kind old true
+IsFailed kind old new = (new ≡ not_answered kind new.faults old) × Rose old.faults new.faults × IsTold kind old true × IsCounted old new
 
 -- what a write leaves, by its answer; without memory nothing changes
 abbrev pub IsWritten : {A : Type 0} → Item → Device → Result A MediumError → Device → Type 0

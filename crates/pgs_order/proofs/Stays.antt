@@ -24,6 +24,12 @@ basic_stays (basics.Open group) = refl
 basic_stays (basics.Scan group osd) = refl
 basic_stays (basics.Take group osd) = refl
 basic_stays (basics.Close group) = refl
+basic_stays (basics.Interval group acting) = refl
+basic_stays (basics.Claim group) = refl
+basic_stays (basics.Release group osd) = refl
+basic_stays (basics.Job group kind rank moment) = refl
+basic_stays (basics.Unjob group) = refl
+basic_stays (basics.Pick moment) = refl
 
 step_stays : (s : Step) → passed (join_with_byte 32 (step_said s).words) ≡ false
 step_stays (steps.Basic basic) = basic_stays basic
@@ -34,5 +40,6 @@ pub not_passed : (l : Line) → line.fits l ≡ true → passed (line.spell l) �
 not_passed (lines.Pool bits) e = refl
 not_passed (lines.Osd osd slots) e = refl
 not_passed (lines.Group group epoch members) e = refl
+not_passed (lines.Fail group osd call number) e = refl
 not_passed (lines.Step step) e = step_stays step
 not_passed lines.End e = refl

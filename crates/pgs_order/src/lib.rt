@@ -7,6 +7,6 @@ mod members;
 mod order;
 mod step_script;
 
-pub use declarations::{Declarations, Group, Osd};
+pub use declarations::{Declarations, Fail, Group, Osd};
 pub use order::{after, allows, nothing_said, passed, passes};
 pub use step_script::StepScript;

@@ -1,8 +1,11 @@
 //! What is declared.
-ghost use Rattle.std.specs.Prelude.{◌≡◌, ◌==◌, ◌^◌};
+ghost use Rattle.std.specs.Prelude.{◌≡◌, ◌==◌, ◌^◌, IfOk};
+ghost use Rattle.std.specs.Option.{option_copied};
 ghost use Rattle.pgs_order.specs.Order as order;
 
-use crate::declarations::{Declarations, Group, Osd};
+use crate::declarations::{Declarations, Fail, Group, Osd};
+use sqlite_items::Items;
+use std::alloc::{AllocError, Global};
 
 fn has(numbers: &[u32], number: u32) -> bool
     ensures { result ≡ order.has numbers.now number }
@@ -35,6 +38,49 @@ pub fn is_member(groups: &[Group], number: u32, osd: u32) -> bool
     ensures { result ≡ order.is_member groups.now number osd }
 {
     groups.iter().any(|group| is_in(group, number, osd))
+}
+
+/// Whether all OSDs are members of a declared group.
+pub fn are_members(groups: &[Group], number: u32, osds: &[u32]) -> bool
+    ensures { result ≡ order.are_members groups.now number osds.now }
+{
+    osds.iter().all(|osd| is_member(groups, number, *osd))
+}
+
+/// The group of this number.
+pub fn find_group(groups: &[Group], number: u32) -> Option<&Group>
+    ensures { option_copied result ≡ order.group_of groups.now number }
+{
+    for group in groups {
+        if group.group == number {
+            return Some(group);
+        }
+    }
+    None
+}
+
+fn is_of(fail: &Fail, group: u32, osd: u32) -> bool
+    ensures { result ≡ order.is_of group osd fail.now }
+{
+    fail.group == group && fail.osd == osd
+}
+
+/// The calls of the device by which an OSD stores a group.
+pub fn choose_fails(
+    alloc: Global,
+    fails: &[Fail],
+    group: u32,
+    osd: u32,
+) -> Result<Items<Fail>, AllocError>
+    ensures { IfOk result (λ found. found ≡ order.fails_of group osd fails.now) }
+{
+    let mut found = Items::new(alloc);
+    for fail in fails {
+        if is_of(fail, group, osd) {
+            found.push(*fail)?;
+        }
+    }
+    Ok(found)
 }
 
 /// Whether all OSDs are declared.

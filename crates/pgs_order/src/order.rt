@@ -1,10 +1,10 @@
 ghost use Rattle.std.specs.Prelude.{◌≡◌, IfOk, OnOk};
 ghost use Rattle.pgs_order.specs.Order as order;
 
-use crate::declarations::{Declarations, Group, Osd};
+use crate::declarations::{Declarations, Fail, Group, Osd};
 use crate::limits::step_passes;
 use crate::members::{
-    are_declared, are_distinct, are_whole, has_group, has_osd, is_member, is_of_pool,
+    are_declared, are_distinct, are_members, are_whole, has_group, has_osd, is_member, is_of_pool,
 };
 use crate::step_script::StepScript;
 use pgs_lines::{Basic, Line, Step};
@@ -32,10 +32,10 @@ pub fn passed(text: &[u8]) -> bool
     }
 }
 
-fn pool_follows(declared: &Declarations, bits: u32) -> bool
-    ensures { result ≡ order.pool_follows declared.now bits }
+fn pool_follows(declared: &Declarations) -> bool
+    ensures { result ≡ order.pool_follows declared.now }
 {
-    declared.bits.is_none() && bits == 0
+    declared.bits.is_none()
 }
 
 fn osd_follows(declared: &Declarations, osd: u32) -> bool
@@ -53,6 +53,20 @@ fn group_follows(declared: &Declarations, group: u32, members: &[u32]) -> bool
         && are_distinct(members)
 }
 
+fn fail_follows(script: &StepScript, group: u32, osd: u32) -> bool
+    ensures { result ≡ order.fail_follows script.now group osd }
+{
+    are_whole(&script.declared)
+        && script.steps.len() == 0
+        && is_member(script.declared.groups.as_slice(), group, osd)
+}
+
+fn acting_follows(groups: &[Group], group: u32, acting: &[u32]) -> bool
+    ensures { result ≡ order.acting_follows groups.now group acting.now }
+{
+    has_group(groups, group) && are_members(groups, group, acting) && are_distinct(acting)
+}
+
 fn basic_is_named(groups: &[Group], basic: &Basic) -> bool
     ensures { result ≡ order.basic_is_named groups.now basic.now }
 {
@@ -68,6 +82,12 @@ fn basic_is_named(groups: &[Group], basic: &Basic) -> bool
         Basic::Scan { group, osd } => is_member(groups, *group, *osd),
         Basic::Take { group, osd } => is_member(groups, *group, *osd),
         Basic::Close { group } => has_group(groups, *group),
+        Basic::Interval { group, acting } => acting_follows(groups, *group, acting.as_slice()),
+        Basic::Claim { group } => has_group(groups, *group),
+        Basic::Release { group, osd } => is_member(groups, *group, *osd),
+        Basic::Job { group, .. } => has_group(groups, *group),
+        Basic::Unjob { group } => has_group(groups, *group),
+        Basic::Pick { .. } => true,
     }
 }
 
@@ -81,20 +101,28 @@ fn step_is_named(groups: &[Group], step: &Step) -> bool
     }
 }
 
+// Whether all is declared, or nothing.
+fn is_closed(declared: &Declarations) -> bool
+    ensures { result ≡ order.is_closed declared.now }
+{
+    declared.bits.is_none() || are_whole(declared)
+}
+
 /// Whether a line may stand here, whatever limit it passes.
 pub fn allows(script: &StepScript, line: &Line) -> bool
     ensures { result ≡ order.allows script.now line.now }
 {
     match line {
-        Line::Pool { bits } => pool_follows(&script.declared, *bits),
+        Line::Pool { .. } => pool_follows(&script.declared),
         Line::Osd { osd, .. } => osd_follows(&script.declared, *osd),
         Line::Group { group, members, .. } => {
             group_follows(&script.declared, *group, members.as_slice())
         }
+        Line::Fail { group, osd, .. } => fail_follows(script, *group, *osd),
         Line::Step { step } => {
             are_whole(&script.declared) && step_is_named(script.declared.groups.as_slice(), step)
         }
-        Line::End => script.declared.bits.is_none() || are_whole(&script.declared),
+        Line::End => is_closed(&script.declared),
     }
 }
 
@@ -103,10 +131,12 @@ pub fn passes(script: &StepScript, line: &Line) -> bool
     ensures { result ≡ order.passes script.now line.now }
 {
     match line {
+        Line::Pool { bits } => *bits > 3,
         Line::Osd { osd, slots } => *osd > 63 || *slots > 8 || script.declared.osds.len() >= 16,
         Line::Group { members, .. } => members.len() > 8,
+        Line::Fail { .. } => script.declared.fails.len() >= 1_000,
         Line::Step { step } => step_passes(step),
-        _ => false,
+        Line::End => false,
     }
 }
 
@@ -133,6 +163,20 @@ pub fn after(script: StepScript, line: Line) -> Result<StepScript, AllocError>
                 group,
                 epoch,
                 members,
+            })?;
+            Ok(next)
+        }
+        Line::Fail {
+            group,
+            osd,
+            call,
+            number,
+        } => {
+            next.declared.fails.push(Fail {
+                group,
+                osd,
+                call,
+                number,
             })?;
             Ok(next)
         }

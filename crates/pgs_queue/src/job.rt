@@ -8,5 +8,5 @@ pub struct Job {
     /// How urgent it is: a lower rank goes first.
     pub rank: u8,
     /// The moment before which it isn't picked.
-    pub not_before: u64,
+    pub not_before: u32,
 }

@@ -4,7 +4,7 @@ ghost use Rattle.pgs_queue.specs.Jobs.{is_ripe, is_before};
 use crate::job::Job;
 
 /// Whether a job may be picked at a moment.
-pub fn is_ripe(job: &Job, now: u64) -> bool
+pub fn is_ripe(job: &Job, now: u32) -> bool
     ensures { result ≡ is_ripe now job.now }
 {
     job.not_before <= now

@@ -52,7 +52,7 @@ impl ScrubQueue {
 
     /// Takes out the first to be picked of the jobs that may be picked now.
     #[tactic(auto, using(crate::proofs::Kept::picks))]
-    pub fn pick(&mut self, now: u64) -> Option<Job>
+    pub fn pick(&mut self, now: u32) -> Option<Job>
         ensures least { result ≡ least_ripe now self.old }
         ensures kept { self.new ≡ taken_out result self.old }
         ensures picked { IsPicked result now self.old self.new }

@@ -31,7 +31,7 @@ fn lesser(job: Job, least: Option<Job>) -> Job
 
 /// The first to be picked of the jobs that may be picked at a moment.
 #[tactic(auto, using(crate::proofs::Turns::turns))]
-pub fn least_ripe(jobs: &[Job], now: u64) -> Option<Job>
+pub fn least_ripe(jobs: &[Job], now: u32) -> Option<Job>
     ensures { result ≡ least_ripe now jobs.now }
 {
     let mut least = None;

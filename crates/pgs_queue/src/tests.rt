@@ -3,7 +3,7 @@ use pgs_chunk::Kind;
 use std::alloc::{AllocError, Global};
 use std::test::Fail;
 
-fn job(group: u32, rank: u8, not_before: u64) -> Job {
+fn job(group: u32, rank: u8, not_before: u32) -> Job {
     Job {
         group,
         kind: Kind::Shallow,
@@ -13,7 +13,7 @@ fn job(group: u32, rank: u8, not_before: u64) -> Job {
 }
 
 // Whether each is queued that is added.
-fn add(queue: &mut ScrubQueue, group: u32, rank: u8, not_before: u64) -> Result<bool, AllocError> {
+fn add(queue: &mut ScrubQueue, group: u32, rank: u8, not_before: u32) -> Result<bool, AllocError> {
     Ok(queue.add(job(group, rank, not_before))? == AddAnswer::Queued)
 }
 
@@ -27,7 +27,7 @@ fn add_four(queue: &mut ScrubQueue) -> Result<bool, AllocError> {
     )
 }
 
-fn picks(queue: &mut ScrubQueue, now: u64, group: u32) -> bool {
+fn picks(queue: &mut ScrubQueue, now: u32, group: u32) -> bool {
     match queue.pick(now) {
         Some(job) => job.group == group,
         None => false,

@@ -41,37 +41,3 @@ pub enum Declined {
         refusal: Refusal,
     },
 }
-
-/// What a write is answered.
-#[derive(Clone, Copy, Debug, PartialEq, Eq, Drop)]
-pub enum WriteAnswer {
-    /// It was not appended.
-    Declined {
-        /// Why.
-        declined: Declined,
-    },
-    /// It was appended to the log.
-    Accepted {
-        /// Its version.
-        version: Version,
-    },
-}
-
-/// What a client is answered that asks for a request's outcome.
-#[derive(Clone, Copy, Debug, PartialEq, Eq, Drop)]
-pub enum CollectAnswer {
-    /// The request doesn't stand in the log.
-    Unknown,
-    /// It does, and an acting OSD has not told of it yet.
-    NotYet {
-        /// The first such OSD.
-        osd: u32,
-        /// The number up to which that OSD told.
-        told: u64,
-    },
-    /// Every acting OSD has told of it.
-    Acked {
-        /// Its version.
-        version: Version,
-    },
-}

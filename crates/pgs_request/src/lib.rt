@@ -1,4 +1,4 @@
-//! What a client asks for and is answered: requests with their ids, what a write does as it is spelled, and answers.
+//! What a client asks for: requests with their ids, what a write does as it is spelled, and why a write is turned away.
 #![tactic(auto)]
 
 mod answers;
@@ -9,7 +9,7 @@ mod snap_context;
 mod snaps;
 mod version;
 
-pub use answers::{CollectAnswer, Declined, Refusal, WriteAnswer};
+pub use answers::{Declined, Refusal};
 pub use op::Op;
 pub use payload::Payload;
 pub use req_id::ReqId;

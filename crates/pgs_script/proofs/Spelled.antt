@@ -21,5 +21,6 @@ pub spelled_after : (s : StepScript) (l : Line) → (line_said l).fits ≡ true 
 spelled_after s (lines.Pool bits) e all = all
 spelled_after s (lines.Osd osd slots) e all = all
 spelled_after s (lines.Group group epoch members) e all = all
+spelled_after s (lines.Fail group osd call number) e all = all
 spelled_after s (lines.Step step) e all = one_more s.steps step all e
 spelled_after s lines.End e all = all

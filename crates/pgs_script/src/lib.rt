@@ -4,4 +4,4 @@
 mod parse;
 
 pub use parse::parse_steps;
-pub use pgs_order::{Declarations, Group, Osd, StepScript};
+pub use pgs_order::{Declarations, Fail, Group, Osd, StepScript};

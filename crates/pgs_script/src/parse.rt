@@ -1,4 +1,4 @@
-ghost use Rattle.std.specs.Prelude.{◌≡◌, ℕ, ◌≤◌, ◌+◌, ◌<◌, ◌^◌, List, ◌≢◌, true, length, Result, Ok, Err, Option, Some, IfOk, OnOk};
+ghost use Rattle.std.specs.Prelude.{◌≡◌, ℕ, ◌≤◌, ◌+◌, ◌<◌, ◌^◌, List, ◌≢◌, true, false, length, Result, Ok, Err, Option, Some, IfOk, OnOk};
 ghost use Rattle.pgs_texts.specs.Text as text_of;
 ghost use Rattle.pgs_texts.specs.Verdict as verdict_of;
 ghost use Rattle.pgs_texts.specs.Verdict.{Judges};
@@ -21,7 +21,7 @@ use std::alloc::Global;
 fn judge(number: u32, script: StepScript, line: Line) -> Result<StepScript, ScriptError>
     ensures verdict { Judges result (verdict_of.judged script_grammar number script (Some line)) }
     ensures spelled { (line_said line).fits ≡ true → AreSpelled script.steps → IfOk result (λ s. AreSpelled s.steps) }
-    ensures ordered { (line_said line).fits ≡ true → IsOrdered script → IfOk result (λ s. IsOrdered s) }
+    ensures ordered { (line_said line).fits ≡ true → script.over ≡ false → IsOrdered script → IfOk result (λ s. IsOrdered s) }
 {
     if allows(&script, &line) {
         if passes(&script, &line) {
@@ -64,6 +64,7 @@ fn finish(number: u32, script: StepScript, text: &[u8]) -> Result<StepScript, Sc
     ensures verdict { Judges result (verdict_of.finished script_grammar number script text.now) }
     ensures spelled { AreSpelled script.steps → IfOk result (λ s. AreSpelled s.steps) }
     ensures ordered { IsOrdered script → IfOk result (λ s. IsOrdered s) }
+    ensures over { IfOk result (λ s. s.over ≡ true) }
 {
     if script.over && text.is_empty() {
         return Ok(script);
@@ -78,6 +79,7 @@ fn read_lines(alloc: Global, text: &[u8]) -> Result<StepScript, ScriptError>
     ensures verdict { Judges result (verdict_of.verdict script_grammar 1 (script_grammar).start (parts_of 10 text.now)) }
     ensures spelled { IfOk result (λ s. AreSpelled s.steps) }
     ensures ordered { IfOk result (λ s. IsOrdered s) }
+    ensures over { IfOk result (λ s. s.over ≡ true) }
 {
     let mut script = nothing_said(alloc);
     let mut number: u32 = 1;
@@ -104,6 +106,8 @@ pub fn parse_steps(alloc: Global, text: &[u8]) -> Result<StepScript, ScriptError
     ensures only { (due : Result StepScript ScriptError) → text_of.IsVerdict script_grammar text.now due → due ≢ Err errors.Memory → Judges result due }
     ensures spelled { IfOk result (λ s. AreSpelled s.steps) }
     ensures ordered { IfOk result (λ s. IsOrdered s) }
+    // It was read to its `end`.
+    ensures over { IfOk result (λ s. s.over ≡ true) }
 {
     read_lines(alloc, text)
 }

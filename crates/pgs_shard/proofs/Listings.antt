@@ -1,7 +1,6 @@
 -- A listing by one position at a time goes on, stops and ends.
-use Rattle.std.proofs.Common.{ℕ, zero, suc, ◌≡◌, ◌<◌, ◌≤◌, Bool, true, false, cond, ◌&&◌, List, [], ◌∷◌, ◌++◌, length, filter, Option, Some, None, Err, IfSome, refl, sym, ap, ◌∙◌, subst, arith}
+use Rattle.std.proofs.Common.{ℕ, zero, suc, ◌≡◌, ◌<◌, ◌≤◌, Bool, true, false, cond, ◌&&◌, List, [], ◌∷◌, ◌++◌, length, filter, Option, Some, None, Err, refl, sym, ap, ◌∙◌, subst, arith}
 use Rattle.std.proofs.lemmas.List.{append_assoc}
-use Rattle.pgs_bytes.proofs.Facts.{true_false}
 use Rattle.pgs_name.specs.declared.object_id.ObjectId.{ObjectId}
 use Rattle.pgs_range.specs.Ranges.{is_at_most}
 use Rattle.pgs_range.specs.Listed.{is_ahead, IsNext}
@@ -16,20 +15,18 @@ use Rattle.pgs_chunk.proofs.Chunks.{from_ascends}
 use Rattle.pgs_chunk.proofs.Listings.{front_ascends, one_longer}
 use Rattle.pgs_chunk.proofs.Members.{next_none, next_some}
 use Rattle.pgs_store.specs.Stores.{is_stored}
-use Rattle.pgs_medium.specs.Calls.{is_named, one_more}
 use Rattle.pgs_cause.specs.Count.{Rose}
-use Rattle.pgs_medium.specs.Device.{Device, listed, not_listed, IsAnswered, IsFailed}
+use Rattle.pgs_medium.specs.Device.{Device, listed, not_listed, IsAnswered, IsFailed, IsTold}
 use Rattle.pgs_medium.specs.declared.item.Item.{Item}
 use Rattle.pgs_medium.specs.declared.medium_error.MediumError.{MediumError}
 use Rattle.pgs_medium.specs.declared.medium_error.MediumError.TheVariants as errors
 use Rattle.pgs_medium.specs.declared.call_kind.CallKind.TheVariants as kinds
-use Rattle.pgs_medium.specs.declared.failing_call.FailingCall.{FailingCall}
 use Rattle.pgs_shard_history.specs.Stores.{stored_by, last_count}
 use Rattle.pgs_shard.specs.Scan.{Scan}
 use Rattle.pgs_shard.specs.State.{IsTied}
 use Rattle.pgs_shard.proofs.Ties.{rose_from, tied_read}
 use Rattle.pgs_shard_history.specs.Positions.{positions}
-use Rattle.pgs_shard.specs.Listed.{answered, calls_for, IsFailedAfter, IsListedOn}
+use Rattle.pgs_shard.specs.Listed.{answered, calls_for, AreUnnamed, IsAnsweredAll, IsFailedAfter, IsListedOn}
 use Rattle.pgs_shard_history.specs.declared.event.Event.{Event}
 use Rattle.pgs_shard_history.specs.declared.event.Event.TheVariants.{ListFailed}
 use Rattle.pgs_shard_history.proofs.Positions.{are_positions}
@@ -42,6 +39,7 @@ ahead past cursor = filter (is_ahead cursor Max) (positions past)
 pub record IsOn (limit : ℕ) (start : Bound) (past : List Event) (old now : Device) (ids : List ObjectId) (cursor : Cursor) : Type 0 where
   pub held : old.stored ≡ stored_by past
   pub device : now ≡ answered (length ids) old
+  pub unnamed : AreUnnamed (length ids) old
   pub left : listing limit start (positions past) ≡ listed_on limit ids (ahead past cursor)
   pub whole : from_start start (positions past) ≡ ids ++ ahead past cursor
 
@@ -58,7 +56,7 @@ all_ahead : (start : Bound) (past : List Event) → from_start start (positions 
 all_ahead start past = same_filter (λ id. is_at_most start id.family) (is_ahead (At start) Max) (λ id. sym (and_true (is_at_most start id.family))) (positions past)
 
 pub begins : (limit : ℕ) (start : Bound) (past : List Event) (old : Device) → old.stored ≡ stored_by past → IsOn limit start past old old [] (At start)
-begins limit start past old h = record { held = h; device = refl; left = ap (listed_on limit []) (all_ahead start past); whole = all_ahead start past }
+begins limit start past old h = record { held = h; device = refl; unnamed = tt; left = ap (listed_on limit []) (all_ahead start past); whole = all_ahead start past }
 
 answered_stores : (calls : ℕ) (device : Device) → (answered calls device).stored ≡ device.stored
 answered_stores zero device = refl
@@ -77,6 +75,10 @@ next_of : (limit : ℕ) (start : Bound) (past : List Event) (old now next : Devi
 next_of limit start past old now next ids cursor answer on is =
     subst (λ s. IsNext (is_stored s) cursor Max answer) (ap (λ (d : Device). d.stored) on.device ∙ answered_stores (length ids) old ∙ on.held) is.2
 
+-- a further listing that was answered isn't named either
+unnamed_on : (calls : ℕ) (old now : Device) → now ≡ answered calls old → AreUnnamed calls old → IsTold kinds.List now false → AreUnnamed (suc calls) old
+unnamed_on calls old now e before told = (before, subst (λ d. IsTold kinds.List d false) e told)
+
 -- the next position is listed
 pub goes_on : (limit : ℕ) (start : Bound) (past : List Event) (old now next : Device) (ids : List ObjectId) (cursor : Cursor) (id : ObjectId)
     → IsOn limit start past old now ids cursor → false ≡ is_full limit ids → IsAnswered cursor Max now (Some id) next
@@ -87,6 +89,7 @@ goes_on limit start past old now next ids cursor id on some is =
     record {
       held = on.held;
       device = is.0 ∙ ap listed on.device ∙ ap (λ n. answered n old) (sym (one_longer ids id));
+      unnamed = subst (λ n. AreUnnamed n old) (sym (one_longer ids id)) (unnamed_on (length ids) old now on.device on.unnamed is.1);
       left = on.left ∙ ap (listed_on limit ids) one
           ∙ ap (λ b. cond b ids (listed_on limit (ids ++ id ∷ []) (ahead past (After id)))) (sym some);
       whole = on.whole ∙ ap (λ l. ids ++ l) one ∙ sym (append_assoc ids (id ∷ []) (ahead past (After id)));
@@ -108,9 +111,19 @@ pub stops : (limit : ℕ) (start : Bound) (past : List Event) (old now : Device)
     → IsOn limit start past old now ids cursor → true ≡ is_full limit ids → ids ≡ listing limit start (positions past)
 stops limit start past old now ids cursor on full = sym (on.left ∙ stopped limit ids (ahead past cursor) (sym full))
 
+full_calls : (limit : ℕ) (ids : List ObjectId) → true ≡ is_full limit ids → length ids ≡ calls_for limit ids
+full_calls limit ids full = ap (λ b. cond b (length ids) (suc (length ids))) full
+
+open_calls : (limit : ℕ) (ids : List ObjectId) → false ≡ is_full limit ids → suc (length ids) ≡ calls_for limit ids
+open_calls limit ids some = ap (λ b. cond b (length ids) (suc (length ids))) some
+
+answered_so : (calls made : ℕ) (old new : Device) → calls ≡ made → new ≡ answered calls old → AreUnnamed calls old → IsAnsweredAll made old new
+answered_so calls made old new e is unnamed = subst (λ n. IsAnsweredAll n old new) e (record { left = is; unnamed = unnamed })
+
 pub stops_device : (limit : ℕ) (start : Bound) (past : List Event) (old now : Device) (ids : List ObjectId) (cursor : Cursor)
-    → IsOn limit start past old now ids cursor → true ≡ is_full limit ids → now ≡ answered (calls_for limit ids) old
-stops_device limit start past old now ids cursor on full = on.device ∙ ap (λ b. answered (cond b (length ids) (suc (length ids))) old) full
+    → IsOn limit start past old now ids cursor → true ≡ is_full limit ids → IsAnsweredAll (calls_for limit ids) old now
+stops_device limit start past old now ids cursor on full =
+    answered_so (length ids) (calls_for limit ids) old now (full_calls limit ids full) on.device on.unnamed
 
 -- the end is reached
 pub ends : (limit : ℕ) (start : Bound) (past : List Event) (old now next : Device) (ids : List ObjectId) (cursor : Cursor)
@@ -121,14 +134,47 @@ ends limit start past old now next ids cursor on is =
     sym (on.left ∙ ap (listed_on limit ids) none)
 
 pub ends_device : (limit : ℕ) (start : Bound) (past : List Event) (old now next : Device) (ids : List ObjectId) (cursor : Cursor)
-    → IsOn limit start past old now ids cursor → false ≡ is_full limit ids → IsAnswered cursor Max now None next → next ≡ answered (calls_for limit ids) old
+    → IsOn limit start past old now ids cursor → false ≡ is_full limit ids → IsAnswered cursor Max now None next → IsAnsweredAll (calls_for limit ids) old next
 ends_device limit start past old now next ids cursor on some is =
-    is.0 ∙ ap listed on.device ∙ ap (λ b. answered (cond b (length ids) (suc (length ids))) old) some
+    answered_so (suc (length ids)) (calls_for limit ids) old next (open_calls limit ids some) (is.0 ∙ ap listed on.device) (unnamed_on (length ids) old now on.device on.unnamed is.1)
+
+-- what is listed on is no shorter
+no_shorter : (limit : ℕ) (ids rest : List ObjectId) → length ids ≤ length (listed_on limit ids rest)
+no_shorter limit ids [] = omega arith
+no_shorter limit ids (id ∷ rest) =
+    let longer : length ids ≤ length (listed_on limit (ids ++ id ∷ []) rest) =
+    (let more : length (ids ++ id ∷ []) ≤ length (listed_on limit (ids ++ id ∷ []) rest) = no_shorter limit (ids ++ id ∷ []) rest in omega (arith, one_longer ids id, more)) in
+    (elim (is_full limit ids) as (λ b. length ids ≤ length (cond b ids (listed_on limit (ids ++ id ∷ []) rest))) [
+      | true ↦ omega arith
+      | false ↦ longer
+    ])
+
+calls_at_least : (limit : ℕ) (ids : List ObjectId) → length ids ≤ calls_for limit ids
+calls_at_least limit ids =
+    (elim (is_full limit ids) as (λ b. length ids ≤ cond b (length ids) (suc (length ids))) [
+      | true ↦ omega arith
+      | false ↦ omega arith
+    ])
+
+-- where they aren't full, a further call is made
+one_call_more : (limit : ℕ) (ids rest : List ObjectId) → false ≡ is_full limit ids → length ids < calls_for limit (listed_on limit ids rest)
+one_call_more limit ids [] some = let e : suc (length ids) ≡ calls_for limit ids = open_calls limit ids some in omega (arith, e)
+one_call_more limit ids (id ∷ rest) some =
+    subst (λ b. length ids < calls_for limit (cond b ids (listed_on limit (ids ++ id ∷ []) rest))) some (
+    let more : length (ids ++ id ∷ []) ≤ length (listed_on limit (ids ++ id ∷ []) rest) = no_shorter limit (ids ++ id ∷ []) rest in
+    let calls : length (listed_on limit (ids ++ id ∷ []) rest) ≤ calls_for limit (listed_on limit (ids ++ id ∷ []) rest) = calls_at_least limit (listed_on limit (ids ++ id ∷ []) rest) in
+    omega (arith, one_longer ids id, more, calls)
+    )
 
 -- the device fails
 pub failed : (limit : ℕ) (start : Bound) (past : List Event) (old now next : Device) (ids : List ObjectId) (cursor : Cursor)
-    → IsOn limit start past old now ids cursor → IsFailed kinds.List now next → IsFailedAfter old next
-failed limit start past old now next ids cursor on is = record { calls = length ids; failed = subst (λ d. IsFailed kinds.List d next) on.device is }
+    → IsOn limit start past old now ids cursor → false ≡ is_full limit ids → IsFailed kinds.List now next → IsFailedAfter (calls_for limit (listing limit start (positions past))) old next
+failed limit start past old now next ids cursor on some is = record {
+  calls = length ids;
+  fewer = subst (λ whole. length ids < calls_for limit whole) (sym on.left) (one_call_more limit ids (ahead past cursor) some);
+  unnamed = on.unnamed;
+  failed = subst (λ d. IsFailed kinds.List d next) on.device is;
+}
 
 -- memory runs out
 pub out_of_memory : (limit : ℕ) (start : Bound) (past : List Event) (old now : Device) (ids : List ObjectId) (cursor : Cursor)
@@ -154,16 +200,16 @@ tied_answered stride calls old new items count scan past tied e =
     tied_read stride old new items count scan past tied (ap (λ (d : Device). d.stored) e ∙ answered_stores calls old)
     (omega (arith, ap (λ (d : Device). d.faults) e, answered_counts calls old))
 
-due_failed : (stride : ℕ) (old new : Device) (items : List Item) (count faults : ℕ) (scan : Scan) (past : List Event) → IsTied stride old items count scan past → IsFailedAfter old new → faults ≡ new.faults
+due_failed : (stride most : ℕ) (old new : Device) (items : List Item) (count faults : ℕ) (scan : Scan) (past : List Event) → IsTied stride old items count scan past → IsFailedAfter most old new → faults ≡ new.faults
     → Rose (last_count past) faults
-due_failed stride old new items count faults scan past tied failed e =
+due_failed stride most old new items count faults scan past tied failed e =
     subst (λ n. Rose (last_count past) n) (sym e)
     (rose_from (last_count past) (answered failed.calls old).faults new.faults (omega (arith, tied.counted, answered_counts failed.calls old)) failed.failed.1)
 
 -- the device failed
-pub tied_failed : (stride : ℕ) (old new : Device) (items : List Item) (count faults : ℕ) (scan : Scan) (past : List Event) → IsTied stride old items count scan past → IsFailedAfter old new → faults ≡ new.faults
+pub tied_failed : (stride most : ℕ) (old new : Device) (items : List Item) (count faults : ℕ) (scan : Scan) (past : List Event) → IsTied stride old items count scan past → IsFailedAfter most old new → faults ≡ new.faults
     → IsTied stride new items count scan (ListFailed faults ∷ past)
-tied_failed stride old new items count faults scan past tied failed e = record {
+tied_failed stride most old new items count faults scan past tied failed e = record {
   all_items = tied.all_items;
   numbered = tied.numbered;
   count_is = tied.count_is;
@@ -171,41 +217,26 @@ tied_failed stride old new items count faults scan past tied failed e = record {
   holds = ap (λ (d : Device). d.stored) failed.failed.0 ∙ answered_stores failed.calls old ∙ tied.holds;
   counted = omega (arith, e);
   scan_is = tied.scan_is;
-  legal = (due_failed stride old new items count faults scan past tied failed e, tied.legal);
+  legal = (due_failed stride most old new items count faults scan past tied failed e, tied.legal);
   some = tied.some;
 }
 
 failing_of : (old new : Device) (faults calls : ℕ) → new ≡ not_listed faults (answered calls old) → new.failing ≡ old.failing
 failing_of old new faults calls e = ap (λ (d : Device). d.failing) e ∙ answered_fails calls old
 
-pub failed_failing : (old new : Device) → IsFailedAfter old new → new.failing ≡ old.failing
-failed_failing old new failed = failing_of old new new.faults failed.calls failed.failed.0
+pub failed_failing : (most : ℕ) (old new : Device) → IsFailedAfter most old new → new.failing ≡ old.failing
+failed_failing most old new failed = failing_of old new new.faults failed.calls failed.failed.0
 
 pub answered_failing : (calls : ℕ) (old new : Device) → new ≡ answered calls old → new.failing ≡ old.failing
 answered_failing calls old new e = ap (λ (d : Device). d.failing) e ∙ answered_fails calls old
 
-told_by : (failing other : Option (List FailingCall)) (number : ℕ) → failing ≡ other → IfSome failing (λ calls. is_named kinds.List number calls ≡ true)
-    → IfSome other (λ calls. is_named kinds.List number calls ≡ true)
-told_by failing other number e h = subst (λ o. IfSome o (λ calls. is_named kinds.List number calls ≡ true)) e h
-
-not_named : (failing : Option (List FailingCall)) (number : ℕ) → IfSome failing (λ calls. is_named kinds.List number calls ≡ true) → (P : Type 0)
-    → IfSome failing (λ calls. ((n : ℕ) → is_named kinds.List n calls ≡ false) → P → ⊥)
-not_named None number h P = tt
-not_named (Some calls) number h P = λ none p. true_false (sym h ∙ none number)
-
--- where no listing is to fail, none does
-pub told_failed : (old new : Device) (P : Type 0) → IsFailedAfter old new → IfSome old.failing (λ calls. ((n : ℕ) → is_named kinds.List n calls ≡ false) → P → ⊥)
-told_failed old new P failed =
-    not_named old.failing (one_more (answered failed.calls old).lists.made)
-    (told_by (answered failed.calls old).failing old.failing (one_more (answered failed.calls old).lists.made) (answered_fails failed.calls old) failed.failed.2) P
-
 -- ---- what the device's answer says, by its error
 
-pub failed_is : (limit : ℕ) (old new : Device) (e : MediumError) → e ≡ errors.Failed → IsListedOn limit old (Err e) new → IsFailedAfter old new
-failed_is limit old new e is h = subst (λ x. IsListedOn limit old (Err x) new) is h
+pub failed_is : (limit : ℕ) (whole : List ObjectId) (old new : Device) (e : MediumError) → e ≡ errors.Failed → IsListedOn limit whole old (Err e) new → IsFailedAfter (calls_for limit whole) old new
+failed_is limit whole old new e is h = subst (λ x. IsListedOn limit whole old (Err x) new) is h
 
-pub memory_is : (limit : ℕ) (old new : Device) (e : MediumError) → e ≡ errors.Memory → IsListedOn limit old (Err e) new → (calls : ℕ) × (new ≡ answered calls old)
-memory_is limit old new e is h = subst (λ x. IsListedOn limit old (Err x) new) is h
+pub memory_is : (limit : ℕ) (whole : List ObjectId) (old new : Device) (e : MediumError) → e ≡ errors.Memory → IsListedOn limit whole old (Err e) new → (calls : ℕ) × (new ≡ answered calls old)
+memory_is limit whole old new e is h = subst (λ x. IsListedOn limit whole old (Err x) new) is h
 
 pub memory_failing : (old new : Device) → (calls : ℕ) × (new ≡ answered calls old) → new.failing ≡ old.failing
 memory_failing old new h = answered_failing h.0 old new h.1

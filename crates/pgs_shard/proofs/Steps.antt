@@ -2,7 +2,7 @@
 use Rattle.std.proofs.Common.{◌≡◌, ℕ, zero, suc, ◌+◌, ◌<◌, ◌≤◌, Bool, true, false, cond, List, [], ◌∷◌, ◌++◌, length, Option, Some, None, is_some, Result, Ok, Err, refl, sym, ap, subst, ◌∙◌, arith}
 use Rattle.std.specs.Prelude.{nat_lt, option_map, max, IfSome}
 use Rattle.std.proofs.lemmas.Bool.Decides.{nat_tests}
-use Rattle.pgs_bytes.proofs.Facts.{some_same, none_some, some_none, true_false}
+use Rattle.pgs_bytes.proofs.Facts.{some_same, some_none, true_false}
 use Rattle.pgs_cause.specs.Count.{Rose}
 use Rattle.pgs_name.specs.declared.object_id.ObjectId.{ObjectId}
 use Rattle.pgs_range.specs.Listed.{IsNext}
@@ -10,9 +10,9 @@ use Rattle.pgs_range.specs.declared.family_range.FamilyRange.{FamilyRange}
 use Rattle.pgs_chunk.specs.declared.ask.Ask.{Ask}
 use Rattle.pgs_copy.specs.Pairs.{Pairs}
 use Rattle.pgs_copy.specs.declared.obj_copy.ObjCopy.{ObjCopy}
-use Rattle.pgs_map.specs.Entries.{entry_of, AreInRange}
+use Rattle.pgs_map.specs.Entries.{entry_of}
 use Rattle.pgs_map.specs.declared.entry.Entry.{Entry}
-use Rattle.pgs_medium.specs.Device.{Device, listed, IsListed, IsFailed}
+use Rattle.pgs_medium.specs.Device.{Device, listed, IsFailed}
 use Rattle.pgs_medium.specs.declared.call_kind.CallKind.TheVariants as kinds
 use Rattle.pgs_medium.specs.declared.item.Item.{Item}
 use Rattle.pgs_medium.specs.declared.medium_error.MediumError.{MediumError}
@@ -20,31 +20,31 @@ use Rattle.pgs_medium.specs.declared.medium_error.MediumError.TheVariants as err
 use Rattle.pgs_scan.specs.Calls.{IsOnlyRead, IsCalled, AreCalled, IsStatFailure, IsBegun, IsReadOnAt, IsReadOn, kind_of}
 use Rattle.pgs_scan.specs.Reads.{Read, read_after, steps_left_open, strides, pages, parts}
 use Rattle.pgs_scan.specs.Seen.{entry_seen, entry_without_digests, unread_entry, half_read_entry}
-use Rattle.pgs_scan.specs.Steps.{IsFront, IsFrontAt, begun, read_on, leaves_more, has_data_left, with_stride, with_page}
+use Rattle.pgs_scan.specs.Steps.{IsFrontAt, begun, read_on, leaves_more, has_data_left, with_stride, with_page}
 use Rattle.pgs_scan.specs.declared.mark.Mark.{Mark}
 use Rattle.pgs_scan.specs.declared.mark.Mark.TheVariants as marks
 use Rattle.pgs_scan.specs.declared.reading_step.ReadingStep.{ReadingStep}
 use Rattle.pgs_scan.specs.declared.reading_step.ReadingStep.TheVariants as readings
-use Rattle.pgs_scan.proofs.Calls.{begun_kept, kept_store, called_only}
+use Rattle.pgs_scan.proofs.Calls.{begun_kept, kept_store}
 use Rattle.pgs_scan.proofs.Steps.{read_first, read_further, more_is, read_whole, front_after}
 use Rattle.pgs_scan.proofs.Parts.{not_below_is}
-use Rattle.pgs_scan.proofs.Scans.{half_seen, shallow_seen}
+use Rattle.pgs_scan.proofs.Scans.{half_seen}
 use Rattle.pgs_store.specs.Stores.{Stored, is_stored}
-use Rattle.pgs_shard_history.specs.Legal.{MayList, IsListing, IsListFailing, IsGoingOn, IsPassing, IsMarked, IsScanDue, HasEnded}
-use Rattle.pgs_shard_history.specs.Scanning.{Scanning, scanning, unasked, after_scan, cursor_of, is_deep, seen_entry}
-use Rattle.pgs_shard_history.specs.Scans.{IsReading, IsMapped, IsAt, IsSoundScan, map_of}
+use Rattle.pgs_shard_history.specs.Legal.{MayList, IsListing, IsListFailing, IsGoingOn, IsPassing, IsMarked}
+use Rattle.pgs_shard_history.specs.Scanning.{Scanning, scanning, after_scan, cursor_of, is_deep, seen_entry}
+use Rattle.pgs_shard_history.specs.Scans.{IsReading, IsAt, IsSoundScan}
 use Rattle.pgs_shard_history.specs.Stores.{applied, stored_by, last_count}
 use Rattle.pgs_shard_history.specs.declared.event.Event.{Event}
-use Rattle.pgs_shard_history.specs.declared.event.Event.TheVariants.{Scanned, Handed as HandedEvent}
+use Rattle.pgs_shard_history.specs.declared.event.Event.TheVariants.{Scanned}
 use Rattle.pgs_shard_history.specs.declared.phase.Phase.{Phase}
 use Rattle.pgs_shard_history.specs.declared.phase.Phase.TheVariants as phases
 use Rattle.pgs_shard_history.specs.declared.scan_event.ScanEvent.TheVariants as events
 use Rattle.pgs_shard_history.proofs.Scans.{sound}
 use Rattle.pgs_shard.specs.Scan.{Scan, scan_of, reading_of, range_of, due_at, due_in, found, going_on, passed, mapped, failed, handed, handed_by, handed_at, cleared, after_handing, HasRoomToHand}
 use Rattle.pgs_shard.specs.Scan as kept
-use Rattle.pgs_shard.specs.Scans.{IsIdle, IsIdleIn, IsEarly, IsScanAnswer, IsReadCall, IsScanCall, IsScanLeft, handed_in, past_after_hand, IsHandedInRange}
+use Rattle.pgs_shard.specs.Scans.{IsIdle, IsIdleIn, IsEarly, IsReadCall, IsHandedInRange}
 use Rattle.pgs_shard.specs.State.{IsTied}
-use Rattle.pgs_shard.specs.Steps.{IsListedFor, MayListNext, IsStatNext, IsReadNext, IsFrontOf, IsReadFor, IsReadBy, IsReadTo}
+use Rattle.pgs_shard.specs.Steps.{IsListedFor, MayListNext, IsStatNext, IsReadNext, IsFrontOf, IsReadFor, IsReadBy}
 use Rattle.pgs_shard.specs.declared.deposit.Deposit.{Deposit}
 use Rattle.pgs_shard.specs.declared.scan_due.ScanDue.{ScanDue}
 use Rattle.pgs_shard.specs.declared.scan_due.ScanDue.TheVariants as dues

@@ -1,33 +1,30 @@
 -- A shard stays tied to its history.
-use Rattle.std.proofs.Common.{◌≡◌, ℕ, suc, ◌+◌, ◌<◌, ◌≤◌, ◌&&◌, Bool, true, false, cond, List, [], ◌∷◌, ◌++◌, length, reverse, Option, Some, None, Ok, slice_get, refl, sym, ap, subst, ◌∙◌, arith}
+use Rattle.std.proofs.Common.{◌≡◌, ℕ, ◌+◌, ◌<◌, ◌≤◌, ◌&&◌, Bool, true, false, cond, List, ◌∷◌, ◌++◌, length, reverse, Option, Some, None, Ok, slice_get, refl, sym, ap, subst, ◌∙◌, arith}
 use Rattle.std.proofs.lemmas.List.{reverse-append, reverse-reverse, length-append, length-reverse}
-use Rattle.pgs_bytes.proofs.Facts.{some_same}
 use Rattle.pgs_cause.specs.Count.{Rose}
 use Rattle.pgs_name.specs.Families.{Family}
-use Rattle.pgs_range.specs.declared.family_range.FamilyRange.{FamilyRange}
 use Rattle.pgs_chunk.specs.declared.ask.Ask.{Ask}
 use Rattle.pgs_copy.specs.declared.damage.Damage.{Damage}
-use Rattle.pgs_store.specs.Stores.{Stored, nothing_stored, affected, harmed}
+use Rattle.pgs_store.specs.Stores.{Stored, affected, harmed}
 use Rattle.pgs_medium.specs.Device.{Device, IsFailed, with_damage}
-use Rattle.pgs_medium.specs.declared.call_kind.CallKind.{CallKind}
 use Rattle.pgs_medium.specs.declared.call_kind.CallKind.TheVariants as kinds
 use Rattle.pgs_medium.specs.declared.item.Item.{Item}
 use Rattle.pgs_shard_history.specs.Feeds.{AreNext, AreNumbered, beyond, fed, item_of}
 use Rattle.pgs_shard_history.specs.Held.{damage_answer}
 use Rattle.pgs_shard_history.specs.Laws.{IsLawful}
-use Rattle.pgs_shard_history.specs.Legal.{IsDue, IsLegal}
+use Rattle.pgs_shard_history.specs.Legal.{IsDue}
 use Rattle.pgs_shard_history.specs.Scanning.{Scanning, scanning, unasked, is_newer, after_ask, after_drop, can_drop, touches, chunk_where, drop_of, dropped}
 use Rattle.pgs_shard_history.specs.Stores.{applied, after_item, stored_by, last_count}
 use Rattle.pgs_shard_history.specs.declared.damage_answer.DamageAnswer.{DamageAnswer}
 use Rattle.pgs_shard_history.specs.declared.damage_answer.DamageAnswer.TheVariants as damages
 use Rattle.pgs_shard_history.specs.declared.event.Event.{Event}
-use Rattle.pgs_shard_history.specs.declared.event.Event.TheVariants.{Fed, Applied, DeviceFault, ListFailed, Scanned, Handed, Damaged}
+use Rattle.pgs_shard_history.specs.declared.event.Event.TheVariants.{Fed, Applied, DeviceFault, Damaged}
 use Rattle.pgs_shard_history.specs.declared.phase.Phase.{Phase}
 use Rattle.pgs_shard_history.specs.declared.phase.Phase.TheVariants as phases
 use Rattle.pgs_shard_history.proofs.Feeds.{found, numbered_more}
 use Rattle.pgs_shard_history.proofs.Laws.{lawful}
 use Rattle.pgs_shard.specs.Answers.{IsWrittenAt, IsDoneAt}
-use Rattle.pgs_shard.specs.Scan.{Scan, scan_of, range_of, cleared, asked, asked_if, is_later, in_ask, drop_in, after_drop_in, HasRoomToHand}
+use Rattle.pgs_shard.specs.Scan.{Scan, scan_of, range_of, cleared, asked_if, in_ask, drop_in, after_drop_in, HasRoomToHand}
 use Rattle.pgs_shard.specs.State.{IsTied}
 
 pub lawful_now : (stride : ℕ) (device : Device) (items : List Item) (count : ℕ) (scan : Scan) (past : List Event) → IsTied stride device items count scan past → IsLawful past

@@ -43,11 +43,6 @@ past_after_apply (Ok (applied.Applied number drops)) past = event.Applied number
 past_after_apply (Err (DeviceFault count)) past = event.DeviceFault count ∷ past
 past_after_apply (Err Memory) past = past
 
--- the answer is a fault of the device
-abbrev pub IsDeviceFault : Result Applied ApplyError → Type 0
-IsDeviceFault (Err (DeviceFault count)) = Unit {0}
-IsDeviceFault _ = ⊥
-
 -- what damage leaves of a device, by its answer: nothing changes where it is refused, or where memory runs out
 abbrev pub IsDamaged : {E : Type 0} → Family → ℕ → Damage → Device → Result DamageAnswer E → Device → Type 0
 IsDamaged family snap damage old (Ok damages.Damaged) new = new ≡ with_damage family snap damage old

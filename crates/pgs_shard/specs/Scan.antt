@@ -1,8 +1,7 @@
 -- A shard's scan as it is kept, beside where its history says that it is.
-use Rattle.std.specs.Prelude.{ℕ, zero, suc, ◌<◌, ◌&&◌, nat_lt, Bool, true, false, List, [], ◌∷◌, ◌++◌, Option, Some, None, option_map, if◌then◌else◌}
-use Rattle.pgs_name.specs.Families.{Family, same_family}
+use Rattle.std.specs.Prelude.{ℕ, zero, suc, ◌<◌, ◌&&◌, nat_lt, Bool, false, List, [], ◌∷◌, ◌++◌, Option, Some, None, option_map, if◌then◌else◌}
+use Rattle.pgs_name.specs.Families.{Family}
 use Rattle.pgs_range.specs.Ranges.{in_range}
-use Rattle.pgs_range.specs.declared.cursor.Cursor.{Cursor}
 use Rattle.pgs_range.specs.declared.family_range.FamilyRange.{FamilyRange}
 use Rattle.pgs_chunk.specs.declared.ask.Ask.{Ask}
 use Rattle.pgs_copy.specs.declared.obj_copy.ObjCopy.{ObjCopy}

@@ -1,5 +1,5 @@
 -- What a small step of a shard's scan answers, what it keeps, and what it leaves of the device.
-use Rattle.std.specs.Prelude.{ℕ, zero, suc, ◌≡◌, ◌≤◌, ◌<◌, Bool, true, false, List, ◌∷◌, Option, Some, None, Result, Ok, Err}
+use Rattle.std.specs.Prelude.{ℕ, zero, suc, ◌≡◌, ◌<◌, Bool, true, false, List, ◌∷◌, Option, Some, None, Result, Ok, Err}
 use Rattle.pgs_chunk.specs.declared.ask.Ask.{Ask}
 use Rattle.pgs_copy.specs.declared.obj_copy.ObjCopy.{ObjCopy}
 use Rattle.pgs_map.specs.Entries.{AreInRange}

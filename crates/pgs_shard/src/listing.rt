@@ -23,7 +23,7 @@ pub fn list_on<M: Medium>(
 ) -> Result<Items<ObjectId>, MediumError>
     requires { (M.device medium.old).stored ≡ stored_by (reverse events.now) }
     ensures listed { IfOk result (λ ids. ids ≡ listings.listing limit start.now (positions (reverse events.now))) }
-    ensures device { IsListedOn limit (M.device medium.old) result (M.device medium.new) }
+    ensures device { IsListedOn limit (listings.listing limit start.now (positions (reverse events.now))) (M.device medium.old) result (M.device medium.new) }
 {
     let bound = start.clone()?;
     let mut cursor = Cursor::At { bound };

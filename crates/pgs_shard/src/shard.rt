@@ -1,16 +1,14 @@
-ghost use Rattle.std.specs.Prelude.{◌≡◌, ◌≤◌, ℕ, [], length, reverse, OnOk, OnErr, IfOk, IfSome, false};
+ghost use Rattle.std.specs.Prelude.{◌≡◌, ◌≤◌, [], length, reverse, OnOk, OnErr, IfOk};
 ghost use Rattle.pgs_store.specs.Stores.{nothing_stored, is_stored};
-ghost use Rattle.pgs_medium.specs.Calls.{is_named, one_more};
-ghost use Rattle.pgs_medium.specs.declared.call_kind.CallKind.TheVariants.{Write, List as Listing};
 ghost use Rattle.pgs_shard_history.specs.Feeds.{AreNext, AreNumbered, fed};
 ghost use Rattle.pgs_shard_history.specs.Stores.{applied, stored_by};
-ghost use Rattle.pgs_shard.specs.Answers.{IsApplied, IsDeviceFault, IsDamaged, past_after_apply, past_after_damage};
+ghost use Rattle.pgs_shard.specs.Answers.{IsApplied, IsDamaged, past_after_apply, past_after_damage};
 ghost use Rattle.pgs_shard_history.specs.Held.{damage_answer};
 ghost use Rattle.pgs_shard_history.specs.Legal.{IsLegal};
 ghost use Rattle.pgs_shard_history.specs.Laws.{IsLawful};
 ghost use Rattle.pgs_chunk.specs.Listings.{IsListOf, listing};
 ghost use Rattle.pgs_shard_history.specs.Positions.{positions};
-ghost use Rattle.pgs_shard.specs.Listed.{IsListAnswer, IsListFault, past_after_list};
+ghost use Rattle.pgs_shard.specs.Listed.{IsListAnswer, past_after_list};
 ghost use Rattle.pgs_shard.specs.State.{with_event};
 ghost use Rattle.pgs_shard_history.specs.declared.event.Event.TheVariants.{Fed};
 
@@ -160,9 +158,6 @@ impl<M: Medium> Shard<M> {
         ensures osd { self.new.osd ≡ self.old.osd }
         ensures stride { self.new.stride ≡ self.old.stride }
         ensures failing { (M.device self.new.medium).failing ≡ (M.device self.old.medium).failing }
-        ensures told { IfSome (M.device self.old.medium).failing (λ calls.
-            is_named Write (one_more (M.device self.old.medium).writes.made) calls ≡ false
-            → IsDeviceFault result → ⊥) }
     {
         if self.applied == self.items.len() {
             return Ok(Applied::NotYet {
@@ -189,17 +184,15 @@ impl<M: Medium> Shard<M> {
         }
     }
 
-    /// The positions from a bound on, in order, until more than `limit` of at least two families are listed. After an error
-    /// nothing of the store has changed.
+    /// The positions from a bound on, in order, until more than `limit` of at least two families are listed. The device is asked for
+    /// one after the other, and a failure ends that. After an error nothing of the store has changed.
     pub fn list(&mut self, start: &Bound, limit: u32) -> Result<Items<ObjectId>, ListError>
         ensures listed { IfOk result (λ ids. ids ≡ listing limit start.now (positions self.old.past)) }
-        ensures answer { IsListAnswer limit (M.device self.old.medium) result (M.device self.new.medium) }
+        ensures answer { IsListAnswer limit (listing limit start.now (positions self.old.past)) (M.device self.old.medium) result (M.device self.new.medium) }
         ensures kept { self.new.past ≡ past_after_list result self.old.past }
         ensures osd { self.new.osd ≡ self.old.osd }
         ensures stride { self.new.stride ≡ self.old.stride }
         ensures failing { (M.device self.new.medium).failing ≡ (M.device self.old.medium).failing }
-        ensures told { IfSome (M.device self.old.medium).failing (λ calls.
-            ((number : ℕ) → is_named Listing number calls ≡ false) → IsListFault result → ⊥) }
     {
         self.events.reserve(2)?;
         match list_on(

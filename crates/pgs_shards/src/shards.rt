@@ -1,28 +1,32 @@
-ghost use Rattle.std.specs.Prelude.{◌≡◌, ◌≤◌, ◌-◌, [], ◌∷◌, ◌++◌, length, map, position, OnOk, OnErr, IfOk, IfSome};
-ghost use Rattle.pgs_chunk.specs.Listings.{listing};
-ghost use Rattle.pgs_shard_history.specs.Positions.{positions};
+ghost use Rattle.std.specs.Prelude.{◌≡◌, ◌≤◌, ◌-◌, ◌∷◌, ◌++◌, length, map, position, OnOk, OnErr, IfOk, IfSome};
 ghost use Rattle.pgs_shard_history.specs.Feeds.{AreNext, fed};
 ghost use Rattle.pgs_shard_history.specs.Stores.{applied};
 ghost use Rattle.pgs_shard_history.specs.declared.event.Event.TheVariants as events;
-ghost use Rattle.pgs_shards.specs.Members.{beginning, past_in, with_event, with_applied, apply_answer, damage_in, with_damage};
 ghost use Rattle.pgs_shard.specs.Scans.{IsHandedInRange};
+ghost use Rattle.pgs_shards.specs.Members.{beginning, past_in, with_event};
+ghost use Rattle.pgs_shards.specs.Applies.{apply_in, with_applied};
+ghost use Rattle.pgs_shards.specs.Damages.{damage_in, with_damage};
+ghost use Rattle.pgs_shards.specs.Listings.{list_in, with_listed};
 ghost use Rattle.pgs_shards.specs.Scans.{scan_in, with_scanned, hand_in, with_handed};
-ghost use Rattle.pgs_shards.specs.Kept.{is_of, seen};
+ghost use Rattle.pgs_shards.specs.Kept.{is_of, seen, AreCalledOn};
 
-use crate::quiet;
+use crate::apply_answer::ApplyAnswer;
+use crate::list_answer::ListAnswer;
+use crate::osd_device::OsdDevice;
+use crate::ram_shard;
 use pgs_chunk::Ask;
 use pgs_copy::Damage;
 use pgs_medium::{Item, RamMedium};
-use pgs_name::{Family, ObjectId};
+use pgs_name::Family;
 use pgs_range::Bound;
-use pgs_shard::{Applied, Deposit, ScanAnswer, Shard};
+use pgs_shard::{Deposit, ScanAnswer, Shard};
 use pgs_shard_history::DamageAnswer;
 use sqlite_items::Items;
 use std::alloc::{AllocError, Global};
 use std::marker::Model;
 
-/// The shards of members, each found by its OSD, and seen by their histories and by how many bytes of a copy each reads at a step of a
-/// scan.
+/// The shards of members, each found by its OSD, and seen by their histories, their devices and how many bytes of a copy each reads at
+/// a step of a scan.
 #[derive(Drop)]
 pub struct Shards {
     alloc: Global,
@@ -32,13 +36,13 @@ pub struct Shards {
 
 impl Model for Shards {
     ghost use Rattle.pgs_shards.specs.Members.{ShardsState};
-    ghost use Rattle.pgs_shards.specs.Kept.{shards_seen, AreQuiet};
+    ghost use Rattle.pgs_shards.specs.Kept.{shards_seen, AreOfStride};
 
     ghost Value = { ShardsState };
 
     ghost view = { λ s. shards_seen s.stride s.items.items };
 
-    ghost invariant = { λ s. AreQuiet s.stride s.items.items };
+    ghost invariant = { λ s. AreOfStride s.stride s.items.items };
 }
 
 // Where the shard of an OSD is.
@@ -56,15 +60,16 @@ fn count(shard: &Shard<RamMedium>) -> u64
 }
 
 impl Shards {
-    /// A shard for each OSD, of which nothing is known yet. Scans read so many bytes of a copy's data at a step.
-    #[tactic(auto, using(crate::proofs::Places::quiet_more, crate::proofs::Places::begun_more), unfolding(crate::specs::Kept::shards_seen))]
-    pub fn new(alloc: Global, osds: &[u32], stride: u32) -> Result<Shards, AllocError>
+    /// A shard for each OSD, of which nothing is known yet, over a device that is to fail these calls. Scans read so many bytes of a
+    /// copy's data at a step.
+    #[tactic(auto, using(crate::proofs::Places::stride_more, crate::proofs::Places::begun_more), unfolding(crate::specs::Kept::shards_seen))]
+    pub fn new(alloc: Global, members: &[OsdDevice], stride: u32) -> Result<Shards, AllocError>
         requires { 1 ≤ stride }
-        ensures { IfOk result (λ shards. shards ≡ record { stride = stride; all = beginning osds.now }) }
+        ensures { IfOk result (λ shards. shards ≡ record { stride = stride; all = beginning members.now }) }
     {
         let mut items = Vec::new(alloc);
-        for osd in osds {
-            let shard = quiet::begin(alloc, *osd, stride);
+        for member in members {
+            let shard = ram_shard::begin(alloc, member, stride)?;
             items.push(shard)?;
         }
         Ok(Shards {
@@ -104,25 +109,25 @@ impl Shards {
         }
     }
 
-    /// Applies the next item of an OSD, if one waits.
-    #[tactic(auto, using(crate::proofs::Places::places, crate::proofs::Places::quiet_set))]
-    pub fn apply_next(&mut self, osd: u32) -> Result<Applied, AllocError>
-        ensures answer { IfOk result (λ answer. answer ≡ apply_answer (past_in self.old.all osd)) }
+    /// Applies the next item of an OSD, if one waits. Where its device fails, the item waits on. One that is no member has none.
+    #[tactic(auto, using(crate::proofs::Places::applies, crate::proofs::Places::stride_set))]
+    pub fn apply_next(&mut self, osd: u32) -> Result<ApplyAnswer, AllocError>
+        ensures answer { IfOk result (λ answer. answer ≡ apply_in self.old.all osd) }
         ensures kept { OnOk result (self.new ≡ record self.old { all = with_applied osd self.old.all }) }
         ensures err { OnErr result (self.new ≡ self.old) }
     {
         match place(self.items.as_slice(), osd) {
             Some(at) => {
                 let shard = &mut self.items[at];
-                let answer = quiet::apply(shard)?;
+                let answer = ram_shard::apply(shard)?;
                 Ok(answer)
             }
-            None => Ok(Applied::NotYet { applied: 0 }),
+            None => Ok(ApplyAnswer::NotYet { applied: 0 }),
         }
     }
 
     /// Gives an OSD the items that it pulled, numbered from one after `from` on, and the ask of a chunk, if there is one.
-    #[tactic(auto, using(crate::proofs::Places::places, crate::proofs::Places::quiet_set))]
+    #[tactic(auto, using(crate::proofs::Places::feeds, crate::proofs::Places::stride_set))]
     pub fn feed(
         &mut self,
         osd: u32,
@@ -138,7 +143,7 @@ impl Shards {
         match place(self.items.as_slice(), osd) {
             Some(at) => {
                 let shard = &mut self.items[at];
-                quiet::feed(shard, from, items, ask)?;
+                ram_shard::feed(shard, from, items, ask)?;
                 Ok(())
             }
             None => Ok(()),
@@ -147,7 +152,7 @@ impl Shards {
 
     /// Does damage to the copy of an OSD at a snap of a family, unless its copies would then hold too much. Of an OSD that is no member
     /// nothing is kept.
-    #[tactic(auto, using(crate::proofs::Places::places, crate::proofs::Places::quiet_set))]
+    #[tactic(auto, using(crate::proofs::Places::damages, crate::proofs::Places::stride_set))]
     pub fn damage(
         &mut self,
         osd: u32,
@@ -162,7 +167,7 @@ impl Shards {
         match place(self.items.as_slice(), osd) {
             Some(at) => {
                 let shard = &mut self.items[at];
-                let answer = quiet::damage(shard, family, snap, damage)?;
+                let answer = ram_shard::damage(shard, family, snap, damage)?;
                 Ok(answer)
             }
             None => {
@@ -172,39 +177,38 @@ impl Shards {
         }
     }
 
-    /// The positions of an OSD from a bound on, in order, until more than `limit` of at least two families are listed. One
-    /// that is no member has none.
-    #[tactic(auto, using(crate::proofs::Places::places, crate::proofs::Places::quiet_set))]
-    pub fn list(
-        &mut self,
-        osd: u32,
-        start: &Bound,
-        limit: u32,
-    ) -> Result<Items<ObjectId>, AllocError>
-        ensures listed { IfOk result (λ ids. ids ≡ listing limit start.now (positions (past_in self.old.all osd))) }
-        ensures kept { self.new ≡ self.old }
+    /// The positions of an OSD from a bound on, in order, until more than `limit` of at least two families are listed, unless its device
+    /// fails. One that is no member has none. Without memory some of the device's calls may have been made.
+    #[tactic(auto, using(crate::proofs::Places::lists, crate::proofs::Places::stride_set))]
+    pub fn list(&mut self, osd: u32, start: &Bound, limit: u32) -> Result<ListAnswer, AllocError>
+        ensures answer { IfOk result (λ answer. answer ≡ list_in limit start.now self.old.all osd) }
+        ensures kept { OnOk result (self.new ≡ record self.old { all = with_listed limit start.now osd self.old.all }) }
+        ensures err { OnErr result (AreCalledOn osd self.old self.new) }
     {
         match place(self.items.as_slice(), osd) {
             Some(at) => {
                 let shard = &mut self.items[at];
-                let listed = quiet::list(shard, start, limit)?;
-                Ok(listed)
+                let answer = ram_shard::list(shard, start, limit)?;
+                Ok(answer)
             }
-            None => Ok(Items::new(self.alloc)),
+            None => Ok(ListAnswer::Listed {
+                ids: Items::new(self.alloc),
+            }),
         }
     }
 
     /// Makes one small step of the scan of an OSD's newest ask. One that is no member has none.
-    #[tactic(auto, using(crate::proofs::Places::scans, crate::proofs::Places::same_some, crate::proofs::Places::quiet_set))]
+    /// Without memory some of its device's calls may have been made.
+    #[tactic(auto, using(crate::proofs::Places::scans, crate::proofs::Places::stride_set))]
     pub fn scan(&mut self, osd: u32) -> Result<ScanAnswer, AllocError>
         ensures answer { IfOk result (λ a. a ≡ scan_in self.old.stride self.old.all osd) }
         ensures kept { OnOk result (self.new ≡ record self.old { all = with_scanned self.old.stride osd self.old.all }) }
-        ensures err { OnErr result (self.new ≡ self.old) }
+        ensures err { OnErr result (AreCalledOn osd self.old self.new) }
     {
         match place(self.items.as_slice(), osd) {
             Some(at) => {
                 let shard = &mut self.items[at];
-                let answer = quiet::scan(shard)?;
+                let answer = ram_shard::scan(shard)?;
                 Ok(answer)
             }
             None => Ok(ScanAnswer::Idle),
@@ -212,7 +216,7 @@ impl Shards {
     }
 
     /// Hands what that scan ended with, once. One that is no member has nothing to hand.
-    #[tactic(auto, using(crate::proofs::Places::hands, crate::proofs::Places::quiet_set))]
+    #[tactic(auto, using(crate::proofs::Places::hands, crate::proofs::Places::stride_set))]
     pub fn hand(&mut self, osd: u32) -> Option<Deposit>
         ensures handed { result ≡ hand_in self.old.all osd }
         ensures kept { self.new ≡ record self.old { all = with_handed osd self.old.all } }
@@ -223,7 +227,7 @@ impl Shards {
         match place(self.items.as_slice(), osd) {
             Some(at) => {
                 let shard = &mut self.items[at];
-                quiet::hand(shard)
+                ram_shard::hand(shard)
             }
             None => None,
         }

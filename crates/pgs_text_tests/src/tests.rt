@@ -2,6 +2,7 @@
 mod lines;
 mod objects;
 mod operations;
+mod plans;
 mod printed;
 mod printing;
 mod scans;

@@ -4,6 +4,7 @@
 mod ended;
 mod histories;
 mod keep;
+mod opening;
 mod replaying;
 mod text;
 mod top_call;

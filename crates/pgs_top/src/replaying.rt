@@ -4,10 +4,7 @@ ghost use Rattle.pgs_chunk.specs.Limits.{usual_settings};
 ghost use Rattle.pgs_texts.specs.Text.{IsTextOf};
 ghost use Rattle.pgs_order.specs.Ordered.{IsOrdered};
 ghost use Rattle.pgs_script.specs.Script.{script_grammar};
-ghost use Rattle.pgs_world.specs.Acknowledged.{AreAcknowledged};
-ghost use Rattle.pgs_world.specs.Counts.{AreInStep, IsOrderly};
-ghost use Rattle.pgs_world.specs.Scrubbed.{AreScrubbed};
-ghost use Rattle.pgs_world.specs.Sound.{IsSound};
+ghost use Rattle.pgs_world.specs.Sound.{AreAcknowledged, AreInStep, AreOrderly, AreScrubbed, IsSound};
 ghost use Rattle.pgs_top.specs.Histories.{histories_of, no_histories, OfWorld};
 ghost use Rattle.pgs_top.specs.Ends.{INPUT_MAX, IsDue, Due, IsWritten, Scripted, IsRefusal, IsRun};
 
@@ -72,6 +69,7 @@ fn run<K: Sink>(alloc: Global, settings: Settings, script: StepScript, sink: &mu
         };
     };
     let Ok(text) = text(alloc, &kept) else {
+        drop(kept);
         return Ended {
             status: Status::Memory,
             kept: nothing(alloc),
@@ -102,10 +100,10 @@ pub fn replay<S: Source, K: Sink>(
     ensures due { Due settings (S.left source.old) result.kept result.status }
     // and what is written for what happened.
     ensures written { IsWritten (K.taken sink.old) (K.taken sink.new) result.kept result.status }
-    // Every write that was answered as acknowledged stands in the log once, and each acting OSD applied it.
+    // Of each group: every write that was answered as acknowledged stands in its log once, and each acting OSD applied it.
     ensures acknowledged { OfWorld AreAcknowledged result.kept.world }
     // The log is numbered without gaps, and no request stands in it twice.
-    ensures orderly { OfWorld IsOrderly result.kept.world }
+    ensures orderly { OfWorld AreOrderly result.kept.world }
     // Members told of no more than they applied, and applied no more than they pulled of the log, in its order.
     ensures in_step { OfWorld AreInStep result.kept.world }
     // Each chunk but the open one was closed or gave way to a write, once; and the closed chunks of each scrub lie in a row, those

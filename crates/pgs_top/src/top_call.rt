@@ -1,9 +1,7 @@
 ghost use Rattle.std.specs.Prelude.{◌≡◌, ◌≢◌, ◌↔◌, map, string_bytes, MatchBool};
 ghost use Rattle.pgs_cause.specs.Count.{Rose};
 ghost use Rattle.pgs_chunk.specs.Limits.{usual_settings};
-ghost use Rattle.pgs_world.specs.Acknowledged.{AreAcknowledged};
-ghost use Rattle.pgs_world.specs.Scrubbed.{AreScrubbed};
-ghost use Rattle.pgs_world.specs.Counts.{AreInStep, IsOrderly};
+ghost use Rattle.pgs_world.specs.Sound.{AreAcknowledged, AreInStep, AreOrderly, AreScrubbed};
 ghost use Rattle.pgs_top.specs.Histories.{OfWorld};
 ghost use Rattle.pgs_top.specs.Ends.{Due, IsWritten, replay_words};
 
@@ -37,10 +35,10 @@ pub fn top<S: Source, K: Sink>(
     ensures due { Due usual_settings (S.left source.old) result.kept result.status }
     // and what is written for what happened.
     ensures written { IsWritten (K.taken sink.old) (K.taken sink.new) result.kept result.status }
-    // Every write that was answered as acknowledged stands in the log once, and each acting OSD applied it.
+    // Of each group: every write that was answered as acknowledged stands in its log once, and each acting OSD applied it.
     ensures acknowledged { OfWorld AreAcknowledged result.kept.world }
     // The log is numbered without gaps, and no request stands in it twice.
-    ensures orderly { OfWorld IsOrderly result.kept.world }
+    ensures orderly { OfWorld AreOrderly result.kept.world }
     // Members told of no more than they applied, and applied no more than they pulled of the log, in its order.
     ensures in_step { OfWorld AreInStep result.kept.world }
     // Each chunk but the open one was closed or gave way to a write, once; and the closed chunks of each scrub lie in a row, those

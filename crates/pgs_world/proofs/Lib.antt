@@ -1,20 +1,5 @@
 -- What every step of a script keeps.
-pub mod Items
-pub mod Members
-pub mod Asks
-pub mod Mapped
-pub mod InStep
-pub mod Acks
-pub mod Cites
-pub mod Opens
-pub mod Versions
-pub mod Inside
-pub mod Compared
-pub mod Takes
-pub mod Steady
-pub mod Admissions
+pub mod Groups
 pub mod Sound
-pub mod Pulls
-pub mod Settles
-pub mod Sweeps
+pub mod Openings
 pub mod Runs

@@ -1,16 +1,9 @@
--- What the steps of a script do, and what then holds.
+-- What the steps of a script do to the groups of a pool, and what then holds.
 pub mod State
-pub mod Naming
+pub mod Pool
+pub mod Opening
 pub mod Said
-pub mod Basics
-pub mod Scrubs
-pub mod Admissions
-pub mod Sweeps
+pub mod Jobs
 pub mod Steps
-pub mod Counts
-pub mod Acknowledged
-pub mod Cited
-pub mod Versions
-pub mod Compared
+pub mod Named
 pub mod Sound
-pub mod Scrubbed

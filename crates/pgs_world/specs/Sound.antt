@@ -1,23 +1,37 @@
 -- What every run of steps keeps.
-use Rattle.std.specs.Prelude.{◌≡◌, ◌≤◌, true, false, is_some}
-use Rattle.pgs_history.specs.Answers.{primary}
-use Rattle.pgs_history.specs.Parked.{is_admitting}
-use Rattle.pgs_world.specs.State.{WorldState}
-use Rattle.pgs_world.specs.Counts.{AreInStep, IsOrderly}
-use Rattle.pgs_world.specs.Cited.{AreCited}
-use Rattle.pgs_world.specs.Acknowledged.{AreAcknowledged}
+use Rattle.std.specs.Prelude.{◌≤◌}
+use Rattle.std.specs.List.{AllByRecursion}
+use Rattle.pgs_slots.specs.Rows.{AreRowsSized}
+use Rattle.pgs_placement.specs.Acknowledged.{AreAcknowledged as AreAcknowledgedIn}
+use Rattle.pgs_placement.specs.Counts.{AreInStep as IsInStep, IsOrderly}
+use Rattle.pgs_placement.specs.Scrubbed.{AreScrubbed as IsScrubbed}
+use Rattle.pgs_placement.specs.Sound.{IsSound as IsSoundGroup}
+use Rattle.pgs_world.specs.State.{WorldState, lent, mades}
+use Rattle.pgs_world.specs.Pool.{AreApart}
 
--- also between the writes that are taken up after a step
-pub record IsSteady (w : WorldState) : Type 0 where
-  pub in_step : AreInStep w
-  pub orderly : IsOrderly w
-  pub acknowledged : AreAcknowledged w
-  pub cited : AreCited w.members w.past
-  -- there is a primary
-  pub some : is_some (primary w.made) ≡ true
-  pub stride : 1 ≤ w.stride
-
--- between steps no write is to be taken up
 pub record IsSound (w : WorldState) : Type 0 where
-  pub steady : IsSteady w
-  pub idle : is_admitting w.past ≡ false
+  -- each group is sound, with the slots and with all that was done
+  pub each : AllByRecursion (λ group. IsSoundGroup (lent w group)) w.groups
+  -- no two groups have one number
+  pub apart : AreApart (mades w.groups)
+  pub few : w.bits ≤ 3
+  -- each OSD has 1 to 8 slots
+  pub sized : AreRowsSized w.slots
+
+-- ---- what that says of the groups
+
+-- every answer that a write is acknowledged holds now, in the group that it names
+abbrev pub AreAcknowledged : WorldState → Type 0
+AreAcknowledged w = AllByRecursion (λ group. AreAcknowledgedIn group.made group.members group.past w.done) w.groups
+
+-- each group's members are in step with it
+abbrev pub AreInStep : WorldState → Type 0
+AreInStep w = AllByRecursion (λ group. IsInStep (lent w group)) w.groups
+
+-- each group's log is in order
+abbrev pub AreOrderly : WorldState → Type 0
+AreOrderly w = AllByRecursion (λ group. IsOrderly (lent w group)) w.groups
+
+-- so are the scrubs of each group
+abbrev pub AreScrubbed : WorldState → Type 0
+AreScrubbed w = AllByRecursion (λ group. IsScrubbed (lent w group)) w.groups

@@ -1,73 +1,44 @@
 -- What the steps of a script do, one after another.
-use Rattle.std.specs.Prelude.{ℕ, zero, suc, ◌-◌, Bool, true, false, List, [], ◌∷◌, length}
-use Rattle.pgs_lines.specs.Contexts.{meant}
-use Rattle.pgs_lines.specs.declared.basic.Basic.{Basic}
+use Rattle.std.specs.Prelude.{ℕ, List, [], ◌∷◌, Option, Some, None}
 use Rattle.pgs_lines.specs.declared.basic.Basic.TheVariants as basics
 use Rattle.pgs_lines.specs.declared.step.Step.{Step}
 use Rattle.pgs_lines.specs.declared.step.Step.TheVariants as steps
-use Rattle.pgs_shard_history.specs.Feeds.{fed}
-use Rattle.pgs_shards.specs.Members.{past_in}
-use Rattle.pgs_world.specs.State.{WorldState}
-use Rattle.pgs_world.specs.Admissions.{all_admitted}
-use Rattle.pgs_world.specs.Basics.{after_write, after_collecting, after_pulling, after_telling, after_applying, after_damaging, after_scanning, applied_by}
-use Rattle.pgs_world.specs.Scrubs.{after_beginning, after_opening, after_taking, after_closing}
-use Rattle.pgs_world.specs.Sweeps.{swept}
+use Rattle.pgs_placement.specs.State.{PlacementState}
+use Rattle.pgs_placement.specs.Steps.{after_step as placement_after}
+use Rattle.pgs_world.specs.State.{GroupState, WorldState, lent, own}
+use Rattle.pgs_world.specs.Pool.{step_group, group_in, with_group}
+use Rattle.pgs_world.specs.Jobs.{after_queueing, after_dropping, after_picking}
 
--- ---- a single step, and then the writes that are to be taken up
+-- ---- a step of a group
 
-abbrev pub basic_done : WorldState → Basic → WorldState
-basic_done w (basics.Write client serial object context op) = after_write w client serial object (meant context) op
-basic_done w (basics.Collect group client serial) = after_collecting w group client serial
-basic_done w (basics.Pull group osd) = after_pulling w group osd
-basic_done w (basics.Apply group osd) = after_applying w group osd
-basic_done w (basics.Tell group osd) = after_telling w group osd
-basic_done w (basics.Damage group osd object snap damage) = after_damaging w group osd object snap damage
-basic_done w (basics.Begin group kind) = after_beginning w group kind
-basic_done w (basics.Open group) = after_opening w group
-basic_done w (basics.Scan group osd) = after_scanning w group osd
-basic_done w (basics.Take group osd) = after_taking w group osd
-basic_done w (basics.Close group) = after_closing w group
+-- a group made a step, and gives back the slots and what was done
+abbrev pub given_back : ℕ → PlacementState → WorldState → WorldState
+given_back number group w = record w { groups = with_group number (own group) w.groups; slots = group.slots; done = group.done }
 
--- a step of a scrub
-abbrev pub is_scrub : Basic → Bool
-is_scrub (basics.Begin group kind) = true
-is_scrub (basics.Open group) = true
-is_scrub (basics.Scan group osd) = true
-is_scrub (basics.Take group osd) = true
-is_scrub (basics.Close group) = true
-is_scrub basic = false
+abbrev pub stepped_by : Option GroupState → ℕ → WorldState → Step → WorldState
+stepped_by None number w step = w
+stepped_by (Some group) number w step = given_back number (placement_after (lent w group) step) w
 
-abbrev pub after_basic : WorldState → Basic → WorldState
-after_basic w basic = all_admitted (basic_done w basic)
+-- the group of a number makes a step, with the slots and with what was done
+abbrev pub stepped_in : ℕ → WorldState → Step → WorldState
+stepped_in number w step = stepped_by (group_in w.groups number) number w step
 
--- ---- settling: each member pulls, applies until nothing waits, and tells
+-- ---- a step of the queue
 
--- how many items of an OSD wait to be applied
-abbrev pub waiting : WorldState → ℕ → ℕ
-waiting w osd = length (fed (past_in w.members osd)) - applied_by w osd
+abbrev pub queued : WorldState → Step → WorldState
+queued w (steps.Basic (basics.Job group kind rank moment)) = after_queueing w group kind rank moment
+queued w (steps.Basic (basics.Unjob group)) = after_dropping w group
+queued w (steps.Basic (basics.Pick moment)) = after_picking w moment
+queued w step = w
 
--- applied so many times
-abbrev pub applied_times : ℕ → WorldState → ℕ → ℕ → WorldState
-applied_times zero w group osd = w
-applied_times (suc n) w group osd = applied_times n (after_applying w group osd) group osd
+-- ---- any step
 
--- applied until the answer is that nothing waits
-abbrev pub applied_all : WorldState → ℕ → ℕ → WorldState
-applied_all w group osd = after_applying (applied_times (waiting w osd) w group osd) group osd
-
-abbrev pub member_settled : WorldState → ℕ → ℕ → WorldState
-member_settled w group osd = after_telling (applied_all (after_pulling w group osd) group osd) group osd
-
-abbrev pub settled : WorldState → ℕ → List ℕ → WorldState
-settled w group [] = w
-settled w group (osd ∷ osds) = settled (member_settled w group osd) group osds
-
--- ---- steps
+abbrev pub stepped : Option ℕ → WorldState → Step → WorldState
+stepped None w step = queued w step
+stepped (Some number) w step = stepped_in number w step
 
 abbrev pub after_step : WorldState → Step → WorldState
-after_step w (steps.Basic basic) = after_basic w basic
-after_step w (steps.Settle group) = settled w group w.made.members
-after_step w (steps.Sweep group kind) = swept w group kind
+after_step w step = stepped (step_group w.bits step) w step
 
 abbrev pub after_steps : WorldState → List Step → WorldState
 after_steps w [] = w

@@ -1,9 +1,7 @@
-//! A pool's group with the shards of its members, changed by the steps of a script.
+//! The groups of a pool, the slots of its OSDs and the jobs that wait, changed by the steps of a script.
 #![tactic(auto)]
 
-mod naming;
 mod saying;
-mod scans;
 mod world;
 
 pub use world::World;

@@ -1,211 +1,48 @@
-//! How lines say what a group and a shard answer.
-ghost use Rattle.std.specs.Prelude.{◌≡◌, IfOk};
-ghost use Rattle.pgs_done.specs.declared.open_answer.OpenAnswer.TheVariants as line_opens;
+//! How lines say what the queue answers.
+ghost use Rattle.std.specs.Prelude.{◌≡◌};
 ghost use Rattle.pgs_world.specs.Said as defined;
 
-use pgs_bytes::Bytes;
-use pgs_done::Position;
-use pgs_group::CloseTold;
-use pgs_history::{BeginAnswer, Chunk, CollectAnswer, OpenAnswer, TakeAnswer, WriteAnswer};
-use pgs_lines::Object;
-use pgs_name::{Family, HEAD, ObjectId};
-use pgs_range::{Bound, FamilyRange};
-use pgs_scan::Mark;
-use pgs_shard::{Applied, ScanAnswer};
-use pgs_shard_history::DamageAnswer;
-use std::alloc::{AllocError, Global};
+use pgs_queue::{AddAnswer, Job};
 
-fn object_of(alloc: Global, family: &Family) -> Result<Object, AllocError>
-    ensures { IfOk result (λ o. o ≡ defined.object_of family.now) }
+fn kind_said(kind: pgs_chunk::Kind) -> pgs_lines::Kind
+    ensures { result ≡ defined.kind_said kind }
 {
-    let space = Bytes::from_slice(alloc, family.space())?;
-    let key = Bytes::from_slice(alloc, family.kept_key())?;
-    let name = Bytes::from_slice(alloc, family.name())?;
-    Ok(Object { space, key, name })
-}
-
-fn snap_said(snap: u64) -> Option<u64>
-    ensures { result ≡ defined.snap_said snap }
-{
-    if snap == HEAD { None } else { Some(snap) }
-}
-
-fn position_said(alloc: Global, id: &ObjectId) -> Result<Position, AllocError>
-    ensures { IfOk result (λ p. p ≡ defined.position_said id.now) }
-{
-    let object = object_of(alloc, &id.family)?;
-    let snap = snap_said(id.snap);
-    Ok(Position { object, snap })
-}
-
-fn bound_said(alloc: Global, bound: &Bound) -> Result<pgs_done::Bound, AllocError>
-    ensures { IfOk result (λ b. b ≡ defined.bound_said bound.now) }
-{
-    match bound {
-        Bound::Min => Ok(pgs_done::Bound::Min),
-        Bound::At { family } => {
-            let object = object_of(alloc, family)?;
-            Ok(pgs_done::Bound::At { object })
-        }
-        Bound::Max => Ok(pgs_done::Bound::Max),
+    match kind {
+        pgs_chunk::Kind::Shallow => pgs_lines::Kind::Shallow,
+        pgs_chunk::Kind::Deep | pgs_chunk::Kind::Repair => pgs_lines::Kind::Deep,
     }
 }
 
-fn range_said(alloc: Global, range: &FamilyRange) -> Result<pgs_done::Range, AllocError>
-    ensures { IfOk result (λ r. r ≡ defined.range_said range.now) }
-{
-    let from = bound_said(alloc, &range.from)?;
-    let to = bound_said(alloc, &range.to)?;
-    Ok(pgs_done::Range { from, to })
-}
-
-fn mark_said(mark: Mark) -> pgs_done::Mark
-    ensures { result ≡ defined.mark_said mark }
-{
-    match mark {
-        Mark::Fine => pgs_done::Mark::Fine,
-        Mark::StatError => pgs_done::Mark::StatError,
-        Mark::ReadError => pgs_done::Mark::ReadError,
-    }
-}
-
-pub fn write_said(alloc: Global, answer: &WriteAnswer) -> Result<pgs_done::WriteAnswer, AllocError>
-    ensures { IfOk result (λ a. a ≡ defined.write_said answer.now) }
+pub fn job_said(answer: AddAnswer) -> pgs_done::JobAnswer
+    ensures { result ≡ defined.job_said answer }
 {
     match answer {
-        WriteAnswer::Declined { declined } => Ok(pgs_done::WriteAnswer::Declined {
-            declined: *declined,
-        }),
-        WriteAnswer::Parked { range } => {
-            let range = range_said(alloc, range)?;
-            Ok(pgs_done::WriteAnswer::Parked { range })
-        }
-        WriteAnswer::QueueFull { count } => {
-            Ok(pgs_done::WriteAnswer::QueueFull { count: *count })
-        }
-        WriteAnswer::Accepted { version, preempts } => Ok(pgs_done::WriteAnswer::Accepted {
-            version: *version,
-            preempts: *preempts,
-        }),
-    }
-}
-
-pub fn collect_said(answer: CollectAnswer) -> pgs_done::CollectAnswer
-    ensures { result ≡ defined.collect_said answer }
-{
-    match answer {
-        CollectAnswer::StillParked { chunk } => pgs_done::CollectAnswer::StillParked { chunk },
-        CollectAnswer::Refused { refusal } => pgs_done::CollectAnswer::Refused { refusal },
-        CollectAnswer::Unknown => pgs_done::CollectAnswer::Unknown,
-        CollectAnswer::NotYet { osd, told } => pgs_done::CollectAnswer::NotYet { osd, told },
-        CollectAnswer::Acked { version } => pgs_done::CollectAnswer::Acked { version },
-    }
-}
-
-pub fn apply_said(applied: Applied) -> pgs_done::ApplyAnswer
-    ensures { result ≡ defined.apply_said applied }
-{
-    match applied {
-        Applied::NotYet { applied } => pgs_done::ApplyAnswer::NotYet { applied },
-        Applied::Applied { number, drops } => pgs_done::ApplyAnswer::Applied { number, drops },
-    }
-}
-
-pub fn damage_said(answer: DamageAnswer) -> pgs_done::DamageAnswer
-    ensures { result ≡ defined.damage_said answer }
-{
-    match answer {
-        DamageAnswer::Damaged => pgs_done::DamageAnswer::Damaged,
-        DamageAnswer::BeingRead => pgs_done::DamageAnswer::BeingRead,
-        DamageAnswer::ShardFull { bytes } => pgs_done::DamageAnswer::ShardFull { bytes },
-    }
-}
-
-pub fn scan_said(alloc: Global, answer: &ScanAnswer) -> Result<pgs_done::ScanAnswer, AllocError>
-    ensures { IfOk result (λ a. a ≡ defined.scan_said answer.now) }
-{
-    match answer {
-        ScanAnswer::Idle => Ok(pgs_done::ScanAnswer::Idle),
-        ScanAnswer::NotYet { applied, needed } => Ok(pgs_done::ScanAnswer::NotYet {
-            applied: *applied,
-            needed: *needed,
-        }),
-        ScanAnswer::Found { id } => {
-            let position = position_said(alloc, id)?;
-            Ok(pgs_done::ScanAnswer::Found { position })
-        }
-        ScanAnswer::More => Ok(pgs_done::ScanAnswer::More),
-        ScanAnswer::Passed { id, mark } => {
-            let position = position_said(alloc, id)?;
-            let mark = mark_said(*mark);
-            Ok(pgs_done::ScanAnswer::Passed { position, mark })
-        }
-        ScanAnswer::Done => Ok(pgs_done::ScanAnswer::Done),
-        ScanAnswer::ListFault { count } => Ok(pgs_done::ScanAnswer::ListFault { count: *count }),
-    }
-}
-
-pub fn begin_said(answer: BeginAnswer) -> pgs_done::BeginAnswer
-    ensures { result ≡ defined.begin_said answer }
-{
-    match answer {
-        BeginAnswer::Busy { serial } => pgs_done::BeginAnswer::Busy { serial },
-        BeginAnswer::Began { serial } => pgs_done::BeginAnswer::Began { serial },
-    }
-}
-
-fn opened_said(alloc: Global, chunk: &Chunk) -> Result<pgs_done::OpenAnswer, AllocError>
-    ensures { IfOk result (λ a. a ≡ line_opens.Opened chunk.now.number (defined.range_said chunk.now.range) chunk.now.version chunk.now.limit chunk.now.firm) }
-{
-    let range = range_said(alloc, &chunk.range)?;
-    Ok(pgs_done::OpenAnswer::Opened {
-        chunk: chunk.number,
-        range,
-        version: chunk.version,
-        limit: chunk.limit,
-        firm: chunk.firm,
-    })
-}
-
-pub fn open_said(alloc: Global, answer: &OpenAnswer) -> Result<pgs_done::OpenAnswer, AllocError>
-    ensures { IfOk result (λ a. a ≡ defined.open_said answer.now) }
-{
-    match answer {
-        OpenAnswer::Already { chunk } => Ok(pgs_done::OpenAnswer::Already { chunk: *chunk }),
-        OpenAnswer::Opened { chunk } => opened_said(alloc, chunk),
-    }
-}
-
-/// How the taking of a map is said that was made when so many items were applied, at a place of its OSD's history.
-pub fn take_said(applied: u64, place: u64, answer: TakeAnswer) -> pgs_done::TakeAnswer
-    ensures { result ≡ defined.take_said applied place answer }
-{
-    match answer {
-        TakeAnswer::Stale { chunk_now } => pgs_done::TakeAnswer::Stale { chunk: chunk_now },
-        TakeAnswer::Taken => pgs_done::TakeAnswer::Taken { applied, place },
-    }
-}
-
-pub fn close_said(chunk: u64, told: CloseTold) -> pgs_done::CloseAnswer
-    ensures { result ≡ defined.close_said chunk told }
-{
-    match told {
-        CloseTold::NoChunk => pgs_done::CloseAnswer::NoChunk,
-        CloseTold::ClosedBefore => pgs_done::CloseAnswer::ClosedBefore { chunk },
-        CloseTold::Preempted { request } => pgs_done::CloseAnswer::Preempted {
-            client: request.client,
-            serial: request.serial,
+        AddAnswer::Queued => pgs_done::JobAnswer::Queued,
+        AddAnswer::Already { job } => pgs_done::JobAnswer::Already {
+            kind: kind_said(job.kind),
+            rank: job.rank,
+            moment: job.not_before,
         },
-        CloseTold::NotYet { osd } => pgs_done::CloseAnswer::NotYet { osd },
-        CloseTold::Closed {
-            findings,
-            snaps,
-            completes,
-        } => pgs_done::CloseAnswer::Closed {
-            chunk,
-            findings,
-            snaps,
-            completes,
+    }
+}
+
+pub fn unjob_said(dropped: Option<Job>) -> pgs_done::UnjobAnswer
+    ensures { result ≡ defined.unjob_said dropped }
+{
+    match dropped {
+        Some(_) => pgs_done::UnjobAnswer::Dropped,
+        None => pgs_done::UnjobAnswer::None,
+    }
+}
+
+pub fn pick_said(picked: Option<Job>) -> pgs_done::PickAnswer
+    ensures { result ≡ defined.pick_said picked }
+{
+    match picked {
+        Some(job) => pgs_done::PickAnswer::Picked {
+            group: job.group,
+            kind: kind_said(job.kind),
         },
+        None => pgs_done::PickAnswer::None,
     }
 }

@@ -1,93 +1,163 @@
-ghost use Rattle.std.specs.Prelude.{◌≡◌, ◌≤◌, ℕ, true, false, reverse, is_some, option_map, None, IfOk, OnOk};
-ghost use Rattle.pgs_history.specs.Answers.{primary};
-ghost use Rattle.pgs_history.specs.Parked.{is_admitting};
-ghost use Rattle.pgs_shards.specs.Members.{damage_in, with_damage};
-ghost use Rattle.pgs_shards.specs.Scans.{scan_in};
-ghost use Rattle.pgs_world.specs.State.{opening};
-ghost use Rattle.pgs_world.specs.Naming as naming;
-ghost use Rattle.pgs_world.specs.Basics as basics;
-ghost use Rattle.pgs_world.specs.Admissions.{all_admitted};
+ghost use Rattle.std.specs.Prelude.{◌≡◌, ◌≤◌, ◌==◌, Some, None, map, position, reverse, IsTrue, IfOk, OnOk};
+ghost use Rattle.std.specs.List.{list_all, AllByRecursion};
+ghost use Rattle.pgs_lines.specs.declared.step.Step.TheVariants as line_steps;
+ghost use Rattle.pgs_slots.specs.Rows.{is_sized, free_rows};
+ghost use Rattle.pgs_placement.specs.Naming.{family_of as family_named};
+ghost use Rattle.pgs_placement.specs.Sound.{IsSound as IsSoundGroup};
+ghost use Rattle.pgs_placement.specs.Counts.{IsNamedStep as IsNamedIn};
+ghost use Rattle.pgs_placement.specs.Steps.{after_step as placement_after};
+ghost use Rattle.pgs_world.specs.State.{mades, opening, own};
+ghost use Rattle.pgs_world.specs.Opening.{IsOpening};
+ghost use Rattle.pgs_world.specs.Pool as pool;
 ghost use Rattle.pgs_world.specs.Steps as steps;
-ghost use Rattle.pgs_world.specs.Counts.{is_member, IsNamed, IsNamedStep, AreNamed};
-ghost use Rattle.pgs_world.specs.Sound.{IsSound, IsSteady};
-ghost use Rattle.pgs_world.specs.Scrubbed.{AreScrubbed};
-ghost use Rattle.pgs_lines.specs.Contexts.{meant};
+ghost use Rattle.pgs_world.specs.Named.{IsNamedOf, IsNamedStep, AreNamed};
+ghost use Rattle.pgs_world.specs.Sound.{IsSound, AreScrubbed};
 
-use crate::naming::{damage_of, family_of, snap_of, write_of};
-use crate::saying::{apply_said, collect_said, damage_said, scan_said, write_said};
-use pgs_chunk::Ask;
 use pgs_done::Done;
-use pgs_group::{Group, Pulled};
-use pgs_history::Made;
-use pgs_lines::{Basic, Context, Damage, Object, Snap, Step};
-use pgs_request::{Op, ReqId};
-use pgs_shard::ScanAnswer;
-use pgs_shard_history::DamageAnswer;
-use pgs_shards::Shards;
-use sqlite_items::Items;
+use pgs_lines::{Basic, Object, Step};
+use pgs_placement::{PlacementGroup, family_of};
+use pgs_queue::ScrubQueue;
+use pgs_slots::{OsdSlots, SlotList};
 use std::alloc::{AllocError, Global};
 use std::marker::Model;
 
-mod admissions;
-mod scrubs;
-mod sweeps;
+mod jobs;
 
-/// A group with the shards of its members, and what was done to them.
+/// The groups of a pool with the shards of their members, the slots of all OSDs, the jobs that wait, and what was done.
 #[derive(Drop)]
 pub struct World {
     alloc: Global,
-    group: Group,
-    shards: Shards,
+    bits: u32,
+    groups: Vec<PlacementGroup>,
+    slots: SlotList,
+    queue: ScrubQueue,
     done: Vec<Done>,
 }
 
 impl Model for World {
-    ghost use Rattle.std.specs.Prelude.{◌≡◌, reverse};
-    ghost use Rattle.pgs_world.specs.State.{WorldState};
+    ghost use Rattle.std.specs.Prelude.{map, reverse};
+    ghost use Rattle.pgs_world.specs.State.{WorldState, own};
 
     ghost Value = { WorldState };
 
     ghost view = { λ w. record {
-      made = w.group.made;
-      stride = w.shards.stride;
-      past = w.group.past;
-      members = w.shards.all;
+      bits = w.bits;
+      groups = map own w.groups.items;
+      slots = w.slots;
+      jobs = w.queue;
       done = reverse w.done.items;
     } };
 }
 
-// The chunk of an ask, if there is one.
-fn chunk_of(ask: &Option<Ask>) -> Option<u64>
-    ensures { result ≡ option_map (λ a. a.chunk) ask.now }
+// Where the group of a number is.
+fn place(groups: &[PlacementGroup], number: u32) -> Option<usize>
+    ensures { result ≡ position (λ group. group.made.number == number) groups.now }
 {
-    match ask {
-        Some(ask) => Some(ask.chunk),
-        None => None,
+    groups.iter().position(|group| group.number() == number)
+}
+
+// A group makes a step, with the slots and with what was done.
+fn step_of(
+    group: &mut PlacementGroup,
+    slots: &mut SlotList,
+    done: &mut Vec<Done>,
+    step: &Step,
+) -> Result<(), AllocError>
+    requires sound { IsSoundGroup (record group.old { slots = slots.old; done = reverse done.old.items }) }
+    requires named { IsNamedIn group.old.made step.now }
+    ensures group { OnOk result (own group.new ≡ own (placement_after (record group.old { slots = slots.old; done = reverse done.old.items }) step.now)) }
+    ensures slots { OnOk result (slots.new ≡ (placement_after (record group.old { slots = slots.old; done = reverse done.old.items }) step.now).slots) }
+    ensures done { OnOk result (reverse done.new.items ≡ (placement_after (record group.old { slots = slots.old; done = reverse done.old.items }) step.now).done) }
+{
+    group.exchange(slots, done);
+    let result = group.step(step);
+    group.exchange(slots, done);
+    result
+}
+
+// The group of an object in a pool of 2^bits groups: it is found by the low bits of a hash.
+fn number_of(bits: u32, object: &Object) -> Result<u32, AllocError>
+    requires { bits ≤ 3 }
+    ensures { IfOk result (λ number. number ≡ pool.number_of bits (family_named object.now)) }
+{
+    let family = family_of(object)?;
+    Ok(family.hash() % (1 << bits))
+}
+
+// The group that a single step is one of.
+fn basic_group(bits: u32, basic: &Basic) -> Result<Option<u32>, AllocError>
+    requires { bits ≤ 3 }
+    ensures { IfOk result (λ group. group ≡ pool.basic_group bits basic.now) }
+{
+    match basic {
+        Basic::Write { object, .. } => {
+            let number = number_of(bits, object)?;
+            Ok(Some(number))
+        }
+        Basic::Collect { group, .. }
+        | Basic::Pull { group, .. }
+        | Basic::Apply { group, .. }
+        | Basic::Tell { group, .. }
+        | Basic::Damage { group, .. }
+        | Basic::Begin { group, .. }
+        | Basic::Open { group }
+        | Basic::Scan { group, .. }
+        | Basic::Take { group, .. }
+        | Basic::Close { group }
+        | Basic::Claim { group }
+        | Basic::Release { group, .. }
+        | Basic::Interval { group, .. } => Ok(Some(*group)),
+        Basic::Job { .. } | Basic::Unjob { .. } | Basic::Pick { .. } => Ok(None),
+    }
+}
+
+// The group that a step is one of.
+fn step_group(bits: u32, step: &Step) -> Result<Option<u32>, AllocError>
+    requires { bits ≤ 3 }
+    ensures { IfOk result (λ group. group ≡ pool.step_group bits step.now) }
+{
+    match step {
+        Step::Basic { basic } => basic_group(bits, basic),
+        Step::Settle { group } | Step::Sweep { group, .. } => Ok(Some(*group)),
     }
 }
 
 impl World {
-    /// Before the first step. Members read so many bytes of a copy's data at a step of a scan.
-    #[tactic(auto, using(crate::proofs::Sound::opening_sound))]
-    pub fn new(alloc: Global, made: Made, stride: u32) -> Result<World, AllocError>
-        requires some { is_some (primary made) ≡ true }
-        requires stride { 1 ≤ stride }
-        ensures world { IfOk result (λ w. w ≡ opening made stride) }
+    /// A pool of 2^bits groups before the first step. The slots are those of all OSDs.
+    #[tactic(auto, using(crate::proofs::Openings::opened_sound))]
+    pub fn new(
+        alloc: Global,
+        bits: u32,
+        groups: Vec<PlacementGroup>,
+        slots: &[OsdSlots],
+    ) -> Result<World, AllocError>
+        requires few { bits ≤ 3 }
+        requires groups { AllByRecursion (λ group. IsOpening group) groups.items }
+        requires apart { pool.AreApart (mades (map own groups.items)) }
+        requires sized { IsTrue (list_all is_sized slots.now) }
+        ensures world { IfOk result (λ w. w ≡ opening bits (map own groups.items) (free_rows slots.now)) }
         ensures sound { IfOk result (λ w. IsSound w) }
     {
-        let world = World::begin(alloc, made, stride)?;
+        let world = World::begin(alloc, bits, groups, slots)?;
         Ok(world)
     }
 
-    fn begin(alloc: Global, made: Made, stride: u32) -> Result<World, AllocError>
-        requires { 1 ≤ stride }
-        ensures { IfOk result (λ w. w ≡ opening made stride) }
+    fn begin(
+        alloc: Global,
+        bits: u32,
+        groups: Vec<PlacementGroup>,
+        slots: &[OsdSlots],
+    ) -> Result<World, AllocError>
+        requires sized { IsTrue (list_all is_sized slots.now) }
+        ensures { IfOk result (λ w. w ≡ opening bits (map own groups.items) (free_rows slots.now)) }
     {
-        let shards = Shards::new(alloc, made.members.as_slice(), stride)?;
+        let slots = SlotList::new(alloc, slots)?;
         Ok(World {
             alloc,
-            group: Group::new(alloc, made),
-            shards,
+            bits,
+            groups,
+            slots,
+            queue: ScrubQueue::new(alloc),
             done: Vec::new(alloc),
         })
     }
@@ -99,278 +169,65 @@ impl World {
         self.done.as_slice()
     }
 
-    // A client writes.
-    fn write(
-        &mut self,
-        client: u32,
-        serial: u32,
-        object: &Object,
-        context: &Context,
-        op: &Op,
-    ) -> Result<(), AllocError>
-        requires idle { is_admitting self.old.past ≡ false }
-        ensures { OnOk result (self.new ≡ basics.after_write self.old client serial object.now (meant context.now) op.now) }
-    {
-        self.done.reserve(1)?;
-        let context = context.meant(self.alloc)?;
-        let write = write_of(client, serial, object, &context, op)?;
-        let answer = self.group.submit(write)?;
-        let answer = write_said(self.alloc, &answer)?;
-        let object = object.clone()?;
-        let op = op.clone()?;
-        self.done.push_reserved(Done::Write {
-            client,
-            serial,
-            object,
-            context,
-            op,
-            answer,
-        });
-        Ok(())
-    }
-
-    // A client asks for the outcome of a request.
-    fn collect(&mut self, group: u32, client: u32, serial: u32) -> Result<(), AllocError>
-        requires idle { is_admitting self.old.past ≡ false }
-        ensures { OnOk result (self.new ≡ basics.after_collecting self.old group client serial) }
-    {
-        self.done.reserve(1)?;
-        let answer = self.group.collect(ReqId { client, serial })?;
-        self.done.push_reserved(Done::Collect {
-            group,
-            client,
-            serial,
-            answer: collect_said(answer),
-        });
-        Ok(())
-    }
-
-    // A member pulls the log, and is told what it is asked for. Where memory runs out it may have pulled items that its shard wasn't fed.
-    #[tactic(auto, using(crate::proofs::Pulls::pull_next, crate::proofs::Pulls::pull_from))]
-    fn pull(&mut self, group: u32, osd: u32) -> Result<(), AllocError>
+    // The group of a number makes a step.
+    fn step_in(&mut self, number: u32, step: &Step) -> Result<(), AllocError>
         requires sound { IsSound self.old }
-        requires member { is_member self.old.made osd ≡ true }
-        ensures { OnOk result (self.new ≡ basics.after_pulling self.old group osd) }
+        requires named { IsNamedOf (Some number) (mades self.old.groups) step.now }
+        ensures { OnOk result (self.new ≡ steps.stepped_in number self.old step.now) }
     {
-        self.done.reserve(1)?;
-        let Pulled {
-            from,
-            to,
-            items,
-            ask,
-            is_new,
-        } = self.group.pull(osd)?;
-        let asked = chunk_of(&ask);
-        if is_new {
-            self.shards.feed(osd, from, items, ask)?;
-        }
-        self.done.push_reserved(Done::Pull {
-            group,
-            osd,
-            from,
-            to,
-            asked,
-        });
+        let Some(at) = place(self.groups.as_slice(), number) else {
+            unreachable!()
+        };
+        let group = &mut self.groups[at];
+        step_of(group, &mut self.slots, &mut self.done, step)?;
         Ok(())
     }
 
-    // A member applies its next item, if one waits.
-    fn apply(&mut self, group: u32, osd: u32) -> Result<(), AllocError>
-        ensures { OnOk result (self.new ≡ basics.after_applying self.old group osd) }
-    {
-        self.done.reserve(1)?;
-        let answer = apply_said(self.shards.apply_next(osd)?);
-        self.done.push_reserved(Done::Apply { group, osd, answer });
-        Ok(())
-    }
-
-    // A member tells how far it has applied the log.
-    fn tell(&mut self, group: u32, osd: u32) -> Result<(), AllocError>
-        requires idle { is_admitting self.old.past ≡ false }
-        ensures { OnOk result (self.new ≡ basics.after_telling self.old group osd) }
-    {
-        self.done.reserve(1)?;
-        let applied = self.group.tell(osd, self.shards.applied(osd))?;
-        self.done.push_reserved(Done::Tell {
-            group,
-            osd,
-            applied,
-        });
-        Ok(())
-    }
-
-    // A copy that a member stores is damaged.
-    fn damage(
-        &mut self,
-        group: u32,
-        osd: u32,
-        object: &Object,
-        snap: Snap,
-        damage: &Damage,
-    ) -> Result<(), AllocError>
-        ensures { OnOk result (self.new ≡ basics.after_damaging self.old group osd object.now snap damage.now) }
-    {
-        let answer = self.do_damage(osd, object, snap, damage)?;
-        let object = object.clone()?;
-        let damage = damage.clone()?;
-        self.done.push(Done::Damage {
-            group,
-            osd,
-            object,
-            snap,
-            damage,
-            answer: damage_said(answer),
-        })?;
-        Ok(())
-    }
-
-    // What a copy's damage is answered.
-    fn do_damage(
-        &mut self,
-        osd: u32,
-        object: &Object,
-        snap: Snap,
-        damage: &Damage,
-    ) -> Result<DamageAnswer, AllocError>
-        ensures answer { IfOk result (λ a. a ≡ damage_in self.old.members osd (naming.family_of object.now) (naming.snap_of snap) (naming.damage_of damage.now)) }
-        ensures kept { OnOk result (self.new ≡ record self.old { members = with_damage osd (naming.family_of object.now) (naming.snap_of snap) (naming.damage_of damage.now) self.old.members }) }
-    {
-        let family = family_of(object)?;
-        let damage = damage_of(self.alloc, damage)?;
-        self.shards.damage(osd, family, snap_of(snap), damage)
-    }
-
-    // A member makes a small step of its scan.
-    fn scan(&mut self, group: u32, osd: u32) -> Result<ScanAnswer, AllocError>
-        ensures answer { IfOk result (λ a. a ≡ scan_in self.old.stride self.old.members osd) }
-        ensures after { OnOk result (self.new ≡ basics.after_scanning self.old group osd) }
-    {
-        self.done.reserve(1)?;
-        let scanned = self.shards.scan(osd)?;
-        let answer = scan_said(self.alloc, &scanned)?;
-        self.done.push_reserved(Done::Scan { group, osd, answer });
-        Ok(scanned)
-    }
-
-    /// Does a single step, and keeps it with its answer, and takes up the writes that waited and need not wait any more. Where
-    /// memory runs out a part of it may be done.
-    #[tactic(auto, using(crate::proofs::Sound::sound_basic))]
-    pub fn basic(&mut self, basic: &Basic) -> Result<(), AllocError>
-        requires sound { IsSound self.old }
-        requires named { IsNamed self.old.made basic.now }
-        ensures after { OnOk result (self.new ≡ steps.after_basic self.old basic.now) }
-        ensures sound { OnOk result (IsSound self.new) }
-    {
-        self.do_basic(basic)?;
-        self.admit_all()?;
-        Ok(())
-    }
-
-    fn do_basic(&mut self, basic: &Basic) -> Result<(), AllocError>
-        requires sound { IsSound self.old }
-        requires named { IsNamed self.old.made basic.now }
-        ensures { OnOk result (self.new ≡ steps.basic_done self.old basic.now) }
+    // What becomes of a job.
+    fn do_job(&mut self, basic: &Basic) -> Result<(), AllocError>
+        requires job { pool.basic_group self.old.bits basic.now ≡ None }
+        ensures { OnOk result (self.new ≡ steps.queued self.old (line_steps.Basic basic.now)) }
     {
         match basic {
-            Basic::Write {
-                client,
-                serial,
-                object,
-                context,
-                op,
-            } => self.write(*client, *serial, object, context, op),
-            Basic::Collect {
+            Basic::Job {
                 group,
-                client,
-                serial,
-            } => self.collect(*group, *client, *serial),
-            Basic::Pull { group, osd } => self.pull(*group, *osd),
-            Basic::Apply { group, osd } => self.apply(*group, *osd),
-            Basic::Tell { group, osd } => self.tell(*group, *osd),
-            Basic::Damage {
-                group,
-                osd,
-                object,
-                snap,
-                damage,
-            } => self.damage(*group, *osd, object, *snap, damage),
-            Basic::Begin { .. }
-            | Basic::Open { .. }
-            | Basic::Scan { .. }
-            | Basic::Take { .. }
-            | Basic::Close { .. } => self.do_scrub(basic),
-        }
-    }
-
-    // A step of a scrub.
-    fn do_scrub(&mut self, basic: &Basic) -> Result<(), AllocError>
-        requires sound { IsSound self.old }
-        requires named { IsNamed self.old.made basic.now }
-        requires scrub { steps.is_scrub basic.now ≡ true }
-        ensures { OnOk result (self.new ≡ steps.basic_done self.old basic.now) }
-    {
-        match basic {
-            Basic::Begin { group, kind } => {
-                self.begin_scrub(*group, *kind)?;
-                Ok(())
-            }
-            Basic::Open { group } => self.open(*group),
-            Basic::Scan { group, osd } => {
-                self.scan(*group, *osd)?;
-                Ok(())
-            }
-            Basic::Take { group, osd } => self.take(*group, *osd),
-            Basic::Close { group } => {
-                self.close(*group)?;
-                Ok(())
-            }
+                kind,
+                rank,
+                moment,
+            } => self.queue(*group, *kind, *rank, *moment),
+            Basic::Unjob { group } => self.unqueue(*group),
+            Basic::Pick { moment } => self.pick(*moment),
             _ => unreachable!(),
         }
     }
 
-    // A member applies its items until none waits.
-    #[tactic(auto, using(crate::proofs::Settles::times_next, crate::proofs::Settles::all_applied))]
-    fn apply_all(&mut self, group: u32, osd: u32) -> Result<(), AllocError>
-        ensures { OnOk result (self.new ≡ steps.applied_all self.old group osd) }
+    // A step of the queue.
+    fn step_out(&mut self, step: &Step) -> Result<(), AllocError>
+        requires job { pool.step_group self.old.bits step.now ≡ None }
+        ensures { OnOk result (self.new ≡ steps.queued self.old step.now) }
     {
-        let waiting = self.shards.waiting(osd);
-        for _ in 0..waiting {
-            self.apply(group, osd)?;
+        match step {
+            Step::Basic { basic } => self.do_job(basic),
+            Step::Settle { .. } | Step::Sweep { .. } => unreachable!(),
         }
-        self.apply(group, osd)
     }
 
-    // A member pulls, applies until nothing waits, and tells.
-    #[tactic(auto, using(crate::proofs::Settles::applied_idle))]
-    fn settle_member(&mut self, group: u32, osd: u32) -> Result<(), AllocError>
+    fn do_step(&mut self, step: &Step) -> Result<(), AllocError>
         requires sound { IsSound self.old }
-        requires member { is_member self.old.made osd ≡ true }
-        ensures { OnOk result (self.new ≡ steps.member_settled self.old group osd) }
+        requires named { IsNamedStep self.old.bits (mades self.old.groups) step.now }
+        ensures { OnOk result (self.new ≡ steps.after_step self.old step.now) }
     {
-        self.pull(group, osd)?;
-        self.apply_all(group, osd)?;
-        self.tell(group, osd)?;
-        Ok(())
-    }
-
-    // Every member does so, in declared order.
-    #[tactic(auto, using(crate::proofs::Settles::settling))]
-    fn settle(&mut self, group: u32) -> Result<(), AllocError>
-        requires sound { IsSound self.old }
-        ensures { OnOk result (self.new ≡ steps.settled self.old group self.old.made.members) }
-    {
-        let members = Items::from_slice(self.alloc, self.group.made().members.as_slice())?;
-        for osd in members.as_slice() {
-            self.settle_member(group, *osd)?;
+        match step_group(self.bits, step)? {
+            Some(number) => self.step_in(number, step),
+            None => self.step_out(step),
         }
-        Ok(())
     }
 
-    /// Does a step of a script. Where memory runs out a part of it may be done.
-    #[tactic(auto, using(crate::proofs::Runs::sound_step))]
+    /// Does a step of a script, and keeps it with its answer. Where memory runs out a part of it may be done.
+    #[tactic(auto, using(crate::proofs::Sound::sound_step))]
     pub fn step(&mut self, step: &Step) -> Result<(), AllocError>
         requires sound { IsSound self.old }
-        requires named { IsNamedStep self.old.made step.now }
+        requires named { IsNamedStep self.old.bits (mades self.old.groups) step.now }
         ensures after { OnOk result (self.new ≡ steps.after_step self.old step.now) }
         ensures sound { OnOk result (IsSound self.new) }
     {
@@ -378,23 +235,11 @@ impl World {
         Ok(())
     }
 
-    fn do_step(&mut self, step: &Step) -> Result<(), AllocError>
-        requires sound { IsSound self.old }
-        requires named { IsNamedStep self.old.made step.now }
-        ensures { OnOk result (self.new ≡ steps.after_step self.old step.now) }
-    {
-        match step {
-            Step::Basic { basic } => self.basic(basic),
-            Step::Settle { group } => self.settle(*group),
-            Step::Sweep { group, kind } => self.sweep(*group, *kind),
-        }
-    }
-
     /// Does the steps of a script, in order. Where memory runs out some of them are done.
     #[tactic(auto, using(crate::proofs::Runs::runs))]
     pub fn run(&mut self, script: &[Step]) -> Result<(), AllocError>
         requires sound { IsSound self.old }
-        requires named { AreNamed self.old.made script.now }
+        requires named { AreNamed self.old.bits (mades self.old.groups) script.now }
         ensures after { OnOk result (self.new ≡ steps.after_steps self.old script.now) }
         ensures sound { OnOk result (IsSound self.new) }
         ensures scrubbed { OnOk result (AreScrubbed self.new) }

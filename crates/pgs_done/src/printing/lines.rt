@@ -4,10 +4,14 @@ ghost use Rattle.pgs_done.specs.Words.{behind, begins};
 
 use super::answers::{push_applied, push_collected, push_pulled, push_written};
 use super::damages::push_damaged;
+use super::plans::{
+    push_claimed, push_dropped, push_interval_answer, push_picked, push_queued, push_released,
+};
 use super::scans::{push_scanned, push_taken};
 use super::scrubs::{push_begun, push_closed, push_opened};
 use super::steps::{
-    push_admit, push_begin, push_collect, push_damage_step, push_group, push_member, push_write,
+    push_admit, push_begin, push_collect, push_damage_step, push_group, push_interval, push_job,
+    push_member, push_write,
 };
 use super::words::{push_count, push_word};
 use crate::done::Done;
@@ -49,6 +53,20 @@ fn push_step(alloc: Global, done: &Done, out: &mut Vec<u8>) -> Result<(), AllocE
         Done::Scan { group, osd, .. } => push_member(alloc, b"scan", *group, *osd, out),
         Done::Take { group, osd, .. } => push_member(alloc, b"take", *group, *osd, out),
         Done::Close { group, .. } => push_group(alloc, b"close", *group, out),
+        Done::Interval { group, acting, .. } => {
+            push_interval(alloc, *group, acting.as_slice(), out)
+        }
+        Done::Claim { group, .. } => push_group(alloc, b"claim", *group, out),
+        Done::Release { group, osd, .. } => push_member(alloc, b"release", *group, *osd, out),
+        Done::Job {
+            group,
+            kind,
+            rank,
+            moment,
+            ..
+        } => push_job(alloc, *group, *kind, *rank, *moment, out),
+        Done::Unjob { group, .. } => push_group(alloc, b"unjob", *group, out),
+        Done::Pick { moment, .. } => push_group(alloc, b"pick", *moment, out),
     }
 }
 
@@ -74,6 +92,12 @@ fn push_answer(alloc: Global, done: &Done, out: &mut Vec<u8>) -> Result<(), Allo
         Done::Scan { answer, .. } => push_scanned(alloc, answer, out),
         Done::Take { answer, .. } => push_taken(alloc, *answer, out),
         Done::Close { answer, .. } => push_closed(alloc, *answer, out),
+        Done::Interval { group, answer, .. } => push_interval_answer(alloc, *group, *answer, out),
+        Done::Claim { answer, .. } => push_claimed(alloc, answer, out),
+        Done::Release { group, answer, .. } => push_released(alloc, *group, *answer, out),
+        Done::Job { answer, .. } => push_queued(alloc, *answer, out),
+        Done::Unjob { answer, .. } => push_dropped(*answer, out),
+        Done::Pick { answer, .. } => push_picked(alloc, *answer, out),
     }
 }
 

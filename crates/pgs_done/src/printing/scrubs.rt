@@ -6,16 +6,16 @@ ghost use Rattle.pgs_done.specs.Scrubs as scrubs;
 ghost use Rattle.pgs_done.specs.declared.close_answer.CloseAnswer.TheVariants as closes;
 
 use super::ranges::push_range;
-use super::words::{push_count, push_number, push_where, push_word};
+use super::words::{push_count, push_number, push_two, push_where, push_word};
 use crate::begin_answer::BeginAnswer;
 use crate::close_answer::CloseAnswer;
 use crate::open_answer::OpenAnswer;
 use crate::range::Range;
 use std::alloc::{AllocError, Global};
 
-// Appends a word and the name of a scrub.
+/// Appends a word and the name of a scrub.
 #[tactic(auto, using(crate::proofs::Behind::joins))]
-fn push_scrub(
+pub fn push_scrub(
     alloc: Global,
     word: &[u8],
     group: u32,
@@ -90,6 +90,14 @@ pub fn push_opened(alloc: Global, answer: &OpenAnswer, out: &mut Vec<u8>) -> Res
         }
         OpenAnswer::Already { chunk } => push_count(alloc, b"already", *chunk, out),
         OpenAnswer::NoScrub => push_word(b"no-scrub", out),
+        OpenAnswer::Reserving { osd } => push_count(alloc, b"reserving", u64::from(*osd), out),
+        OpenAnswer::DeviceFault { osd, count } => push_two(
+            alloc,
+            b"device-fault",
+            u64::from(*osd),
+            *count,
+            out,
+        ),
     }
 }
 
@@ -123,6 +131,19 @@ fn push_preempted(
     push_number(alloc, u64::from(serial), out)
 }
 
+// Appends a word and two epochs.
+fn push_epochs(
+    alloc: Global,
+    word: &[u8],
+    before: u32,
+    after: u32,
+    out: &mut Vec<u8>,
+) -> Result<(), AllocError>
+    ensures { OnOk result (out.new.items ≡ out.old.items ++ behind (word.now ∷ decimal before ∷ decimal after ∷ [])) }
+{
+    push_two(alloc, word, u64::from(before), u64::from(after), out)
+}
+
 /// Appends what a `close` was answered.
 pub fn push_closed(alloc: Global, answer: CloseAnswer, out: &mut Vec<u8>) -> Result<(), AllocError>
     ensures { OnOk result (out.new.items ≡ out.old.items ++ behind (scrubs.close_words answer)) }
@@ -138,5 +159,19 @@ pub fn push_closed(alloc: Global, answer: CloseAnswer, out: &mut Vec<u8>) -> Res
         CloseAnswer::ClosedBefore { chunk } => push_count(alloc, b"closed-before", chunk, out),
         CloseAnswer::NoChunk => push_word(b"no-chunk", out),
         CloseAnswer::Preempted { client, serial } => push_preempted(alloc, client, serial, out),
+        CloseAnswer::IntervalChanged { old, new } => push_epochs(
+            alloc,
+            b"interval-changed",
+            old,
+            new,
+            out,
+        ),
+        CloseAnswer::DeviceFault { osd, count } => push_two(
+            alloc,
+            b"device-fault",
+            u64::from(osd),
+            count,
+            out,
+        ),
     }
 }

@@ -1,5 +1,7 @@
 ghost use Rattle.std.specs.Prelude.{◌≡◌, ◌++◌, ◌∷◌, [], OnOk, codes};
 ghost use Rattle.std.specs.Fmt.{decimal};
+ghost use Rattle.pgs_words.specs.Forms.{all_spelled};
+ghost use Rattle.pgs_words.specs.Fields as fields;
 ghost use Rattle.pgs_lines.specs.Objects as objects;
 ghost use Rattle.pgs_lines.specs.Basics as basics;
 ghost use Rattle.pgs_done.specs.Contexts.{as_printed};
@@ -113,7 +115,7 @@ pub fn push_damage_step(
     push_damage(alloc, damage, out)
 }
 
-/// Appends a word and a group.
+/// Appends a word and a number, which mostly is a group.
 #[tactic(auto, using(crate::proofs::Behind::joins))]
 pub fn push_group(
     alloc: Global,
@@ -127,7 +129,8 @@ pub fn push_group(
     push_number(alloc, u64::from(group), out)
 }
 
-fn push_kind(kind: Kind, out: &mut Vec<u8>) -> Result<(), AllocError>
+/// Appends a kind, behind a space.
+pub fn push_kind(kind: Kind, out: &mut Vec<u8>) -> Result<(), AllocError>
     ensures { OnOk result (out.new.items ≡ out.old.items ++ behind (objects.kind_word kind ∷ [])) }
 {
     match kind {
@@ -148,4 +151,46 @@ pub fn push_begin(
 {
     push_group(alloc, b"begin", group, out)?;
     push_kind(kind, out)
+}
+
+// Appends numbers, behind a space each.
+fn push_numbers(alloc: Global, numbers: &[u32], out: &mut Vec<u8>) -> Result<(), AllocError>
+    ensures { OnOk result (out.new.items ≡ out.old.items ++ behind (all_spelled fields.number numbers.now)) }
+{
+    for number in numbers {
+        push_number(alloc, u64::from(*number), out)?;
+    }
+    Ok(())
+}
+
+/// Appends the words of an `interval`.
+#[tactic(auto, using(crate::proofs::Behind::joins))]
+pub fn push_interval(
+    alloc: Global,
+    group: u32,
+    acting: &[u32],
+    out: &mut Vec<u8>,
+) -> Result<(), AllocError>
+    ensures { OnOk result (out.new.items ≡ out.old.items ++ (codes "interval" ++ behind ((basics.interval_form).spell (group, acting.now)))) }
+{
+    push_group(alloc, b"interval", group, out)?;
+    push_numbers(alloc, acting, out)
+}
+
+/// Appends the words of a `job`.
+#[tactic(auto, using(crate::proofs::Behind::joins))]
+pub fn push_job(
+    alloc: Global,
+    group: u32,
+    kind: Kind,
+    rank: u8,
+    moment: u32,
+    out: &mut Vec<u8>,
+) -> Result<(), AllocError>
+    ensures { OnOk result (out.new.items ≡ out.old.items ++ (codes "job" ++ behind ((basics.job_form).spell (group, (kind, (rank, moment)))))) }
+{
+    push_group(alloc, b"job", group, out)?;
+    push_kind(kind, out)?;
+    push_number(alloc, u64::from(rank), out)?;
+    push_number(alloc, u64::from(moment), out)
 }

@@ -43,6 +43,21 @@ pub fn push_count(
     push_number(alloc, count, out)
 }
 
+/// Appends a word and two numbers.
+#[tactic(auto, using(crate::proofs::Behind::joins))]
+pub fn push_two(
+    alloc: Global,
+    word: &[u8],
+    first: u64,
+    second: u64,
+    out: &mut Vec<u8>,
+) -> Result<(), AllocError>
+    ensures { OnOk result (out.new.items ≡ out.old.items ++ behind (word.now ∷ decimal first ∷ decimal second ∷ [])) }
+{
+    push_count(alloc, word, first, out)?;
+    push_number(alloc, second, out)
+}
+
 /// Appends a word where something is so.
 #[tactic(auto, using(crate::proofs::Behind::joins))]
 pub fn push_where(is: bool, word: &[u8], out: &mut Vec<u8>) -> Result<(), AllocError>

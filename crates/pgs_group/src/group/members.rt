@@ -5,7 +5,7 @@ ghost use Rattle.pgs_op_log.specs.Logs.{version_in};
 ghost use Rattle.pgs_history.specs.Log.{ids};
 ghost use Rattle.pgs_history.specs.Scrubs.{open_chunk};
 ghost use Rattle.pgs_history.specs.Parked.{parked, refused, is_admitting};
-ghost use Rattle.pgs_history.specs.Answers.{behind, where_so, unlogged, collect_found, collect_answer, tell_answer};
+ghost use Rattle.pgs_history.specs.Answers.{behind, where_so, unlogged, collect_found, collect_answer, tell_answer, ask, new_ask};
 ghost use Rattle.pgs_history.specs.After.{after_collect, after_pull, after_tell};
 ghost use Rattle.pgs_history.specs.Legal.{IsLegal};
 ghost use Rattle.pgs_group.specs.Steps.{pull_answer};
@@ -22,20 +22,40 @@ use sqlite_items::Items;
 use std::alloc::AllocError;
 
 impl Group {
+    // The number of the open chunk, for an OSD that acts and wasn't asked for it before.
+    fn newly(&self, osd: u32) -> Option<u64>
+        ensures { result ≡ new_ask self.now.made self.now.past osd }
+    {
+        if !self.acts(osd) {
+            return None;
+        }
+        self.scrubs.newly(self.given.asked(osd))
+    }
+
+    // What an OSD is asked for.
+    fn ask(&self, osd: u32) -> Result<Option<Ask>, AllocError>
+        ensures { IfOk result (λ given. given ≡ ask self.now.made self.now.past osd) }
+    {
+        if !self.acts(osd) {
+            return Ok(None);
+        }
+        self.scrubs.ask()
+    }
+
     /// Tells a member the items of the log that it didn't pull yet, and what it is asked for.
     #[tactic(auto, using(pgs_history::proofs::Legal::legal_pull))]
     pub fn pull(&mut self, osd: u32) -> Result<Pulled, AllocError>
         requires idle { is_admitting self.old.past ≡ false }
-        ensures answer { IfOk result (λ p. p ≡ pull_answer self.old.past osd) }
-        ensures kept { OnOk result (self.new ≡ record self.old { past = after_pull self.old.past osd }) }
+        ensures answer { IfOk result (λ p. p ≡ pull_answer self.old.made self.old.past osd) }
+        ensures kept { OnOk result (self.new ≡ record self.old { past = after_pull self.old.made self.old.past osd }) }
         ensures err { OnErr result (self.new ≡ self.old) }
         ensures legal { IsLegal self.old.made self.old.past → IsLegal self.new.made self.new.past }
     {
         let from = self.given.pulled(osd);
         let to = self.log.len();
-        let asked = self.scrubs.newly(self.given.asked(osd));
+        let asked = self.newly(osd);
         let items = self.log.items_after(self.alloc, from)?;
-        let ask = self.scrubs.ask()?;
+        let ask = self.ask(osd)?;
         if !gives(from, to, asked) {
             return Ok(pulled(from, to, items, ask, false));
         }
@@ -74,7 +94,7 @@ impl Group {
     fn behind(&self, number: u64) -> Option<u32>
         ensures { result ≡ behind self.now.made self.now.past number }
     {
-        first_behind(self.made.members.as_slice(), &self.told, number)
+        first_behind(self.acting(), &self.told, number)
     }
 
     // The open chunk's number, where a write of a request waits.

@@ -2,8 +2,8 @@
 ghost use Rattle.std.specs.Prelude.{◌≡◌, ◌<◌, true, false, is_some, IfOk, OnOk, OnErr, Some, None};
 ghost use Rattle.pgs_chunk.specs.Positions.{Ascends};
 ghost use Rattle.pgs_map.specs.Entries.{AreInRange};
-ghost use Rattle.pgs_history.specs.Scrubs.{running, last_kind, is_deep, fate, limit_now, is_firm};
-ghost use Rattle.pgs_history.specs.Answers.{begin_answer, open_answer, take_answer, close_answer, unclosed, told_of, found, next_chunk, primary};
+ghost use Rattle.pgs_history.specs.Scrubs.{IsBegun, last_kind, is_deep, fate, limit_now, is_firm};
+ghost use Rattle.pgs_history.specs.Answers.{begin_answer, unopened, open_answer, take_answer, close_answer, unclosed, told_of, found, next_chunk, primary};
 ghost use Rattle.pgs_history.specs.After.{after_begin, after_open, after_take, after_close};
 ghost use Rattle.pgs_history.specs.Legal.{IsLegal, IsOfChunk};
 ghost use Rattle.pgs_history.specs.Parked.{is_admitting};
@@ -15,6 +15,8 @@ use crate::close_told::{CloseTold, told_of};
 use crate::comparing::compare;
 use crate::limits_now::limit_of;
 use crate::next_chunk::NextChunk;
+use crate::noting::note_completed;
+use crate::osds;
 use crate::taken::first_missing;
 use pgs_chunk::{Kind, select};
 use pgs_compare::Report;
@@ -26,23 +28,24 @@ use sqlite_items::Items;
 use std::alloc::AllocError;
 
 impl Group {
-    /// Begins a scrub, unless one runs.
+    /// Begins a scrub, unless one reserves or runs.
     #[tactic(auto, using(crate::proofs::Scrubs::begun_most))]
     pub fn begin(&mut self, kind: Kind) -> Result<BeginAnswer, AllocError>
         requires idle { is_admitting self.old.past ≡ false }
-        ensures answer { IfOk result (λ a. a ≡ begin_answer self.old.past) }
-        ensures kept { OnOk result (self.new ≡ record self.old { past = after_begin self.old.past kind }) }
+        ensures answer { IfOk result (λ a. a ≡ begin_answer self.old.made self.old.past) }
+        ensures kept { OnOk result (self.new ≡ record self.old { past = after_begin self.old.made self.old.past kind }) }
         ensures err { OnErr result (self.new ≡ self.old) }
         ensures legal { IsLegal self.old.made self.old.past → IsLegal self.new.made self.new.past }
     {
         self.events.reserve(1)?;
-        if let Some(serial) = self.scrubs.running {
+        if let Some(serial) = self.scrubs.present() {
             let answer = BeginAnswer::Busy { serial };
             self.events.push_reserved(Event::Begin { kind, answer });
             return Ok(answer);
         }
+        let first = osds::at(self.acting(), 0);
         let serial = self.scrubs.begin(kind);
-        let answer = BeginAnswer::Began { serial };
+        let answer = BeginAnswer::Began { serial, first };
         self.events.push_reserved(Event::Begin { kind, answer });
         Ok(answer)
     }
@@ -61,18 +64,22 @@ impl Group {
         self.scrubs.used == u64::from(self.made.limits.preemptions)
     }
 
-    /// Where and how the next chunk of the running scrub is to be opened. It adds no event.
+    /// Where and how the next chunk of a scrub is to be opened, or why none can be. It adds no event.
+    #[tactic(auto, unfolding(pgs_history::specs::Answers::unopened))]
     pub fn next_chunk(&self, serial: u64) -> Result<NextChunk, AllocError>
-        requires running { running self.now.past ≡ Some serial }
-        requires some { is_some (primary self.now.made) ≡ true }
-        ensures { IfOk result (λ next. IsNextChunk self.now.made self.now.past next) }
+        requires some { is_some (primary self.now.made self.now.past) ≡ true }
+        ensures { IfOk result (λ next. IsNextChunk self.now.made self.now.past serial next) }
     {
-        if let Some(chunk) = &self.scrubs.open_chunk {
-            return Ok(NextChunk::Already {
-                chunk: chunk.number,
-            });
+        if let Some(cause) = self.cause(serial)? {
+            return Ok(NextChunk::Over { cause });
         }
-        let Some(primary) = self.made.members.as_slice().first() else {
+        if let Some(osd) = self.claims_at() {
+            return Ok(NextChunk::StillReserving { osd });
+        }
+        if let Some(chunk) = self.scrubs.open_number() {
+            return Ok(NextChunk::Already { chunk });
+        }
+        let Some(primary) = self.acting().first() else {
             unreachable!()
         };
         let start = self.scrubs.start.clone()?;
@@ -102,27 +109,32 @@ impl Group {
         })
     }
 
-    /// Opens a chunk of the running scrub, unless one is open. The positions are the primary's, from the chunk's start on.
-    pub fn open(&mut self, serial: u64, listed: Items<ObjectId>) -> Result<OpenAnswer, AllocError>
-        requires idle { is_admitting self.old.past ≡ false }
-        requires running { running self.old.past ≡ Some serial }
+    // Why no chunk of a scrub is opened, if none is.
+    #[tactic(auto, unfolding(pgs_history::specs::Answers::unopened))]
+    fn not_opened(&self, serial: u64) -> Result<Option<OpenAnswer>, AllocError>
+        ensures { IfOk result (λ why. why ≡ unopened self.now.made self.now.past serial) }
+    {
+        if let Some(cause) = self.cause(serial)? {
+            return Ok(Some(OpenAnswer::Over { cause }));
+        }
+        if let Some(osd) = self.claims_at() {
+            return Ok(Some(OpenAnswer::StillReserving { osd }));
+        }
+        match self.scrubs.open_number() {
+            Some(chunk) => Ok(Some(OpenAnswer::Already { chunk })),
+            None => Ok(None),
+        }
+    }
+
+    // Opens a chunk of the scrub that runs. No chunk is open.
+    fn open_next(&mut self, serial: u64, listed: Items<ObjectId>) -> Result<OpenAnswer, AllocError>
+        requires runs { unopened self.old.made self.old.past serial ≡ None }
         requires ascends { Ascends listed }
         ensures answer { IfOk result (λ a. a ≡ open_answer self.old.made self.old.past serial listed) }
         ensures kept { OnOk result (self.new ≡ record self.old { past = after_open self.old.made self.old.past serial listed }) }
         ensures err { OnErr result (self.new ≡ self.old) }
-        ensures legal { IsLegal self.old.made self.old.past → IsLegal self.new.made self.new.past }
     {
         self.events.reserve(1)?;
-        if let Some(open) = &self.scrubs.open_chunk {
-            let chunk = open.number;
-            let answer = OpenAnswer::Already { chunk };
-            self.events.push_reserved(Event::Open {
-                serial,
-                listed,
-                answer,
-            });
-            return Ok(OpenAnswer::Already { chunk });
-        }
         let chunk = self.chunk_next(serial, listed.as_slice())?;
         let kept = chunk.clone()?;
         let answered = chunk.clone()?;
@@ -133,6 +145,29 @@ impl Group {
             answer: OpenAnswer::Opened { chunk: kept },
         });
         Ok(OpenAnswer::Opened { chunk: answered })
+    }
+
+    /// Opens a chunk of a scrub, where it runs and none is open. The positions are the primary's, from the chunk's start on.
+    pub fn open(&mut self, serial: u64, listed: Items<ObjectId>) -> Result<OpenAnswer, AllocError>
+        requires idle { is_admitting self.old.past ≡ false }
+        requires begun { IsBegun self.old.past serial }
+        requires ascends { Ascends listed }
+        ensures answer { IfOk result (λ a. a ≡ open_answer self.old.made self.old.past serial listed) }
+        ensures kept { OnOk result (self.new ≡ record self.old { past = after_open self.old.made self.old.past serial listed }) }
+        ensures err { OnErr result (self.new ≡ self.old) }
+        ensures legal { IsLegal self.old.made self.old.past → IsLegal self.new.made self.new.past }
+    {
+        self.events.reserve(1)?;
+        if let Some(answer) = self.not_opened(serial)? {
+            let told = answer.copied(self.alloc)?;
+            self.events.push_reserved(Event::Open {
+                serial,
+                listed,
+                answer,
+            });
+            return Ok(told);
+        }
+        self.open_next(serial, listed)
     }
 
     /// Takes a member's map of a chunk, where that is open.
@@ -155,10 +190,18 @@ impl Group {
     // What is told of a chunk that isn't open any more.
     fn ended(&self, chunk: u64) -> CloseAnswer
         requires { 0 < chunk }
-        ensures { result ≡ told_of (fate self.now.past chunk) }
+        ensures { result ≡ told_of (fate self.now.made self.now.past chunk) }
     {
         match self.fates.get((chunk - 1) as usize) {
             Some(Fate::Preempted { request }) => CloseAnswer::Preempted { request: *request },
+            Some(Fate::IntervalChanged { old, new }) => CloseAnswer::IntervalChanged {
+                old: *old,
+                new: *new,
+            },
+            Some(Fate::DeviceFault { osd, count }) => CloseAnswer::DeviceFault {
+                osd: *osd,
+                count: *count,
+            },
             Some(Fate::Closed) => CloseAnswer::ClosedBefore,
             None => CloseAnswer::ClosedBefore,
         }
@@ -175,7 +218,7 @@ impl Group {
         if !self.scrubs.is_open(chunk) {
             return Some(self.ended(chunk));
         }
-        match first_missing(self.events.as_slice(), chunk, self.made.members.as_slice()) {
+        match first_missing(self.events.as_slice(), chunk, self.acting()) {
             Some(osd) => Some(CloseAnswer::NotYet { osd }),
             None => None,
         }
@@ -187,13 +230,12 @@ impl Group {
         ensures report { IfOk result (λ r. r ≡ found self.now.made self.now.past chunk) }
         ensures ordered { IfOk result (λ r. AreOrdered r.found r.snaps) }
     {
-        let members = self.made.members.as_slice();
         compare(
             self.alloc,
             self.scrubs.version(),
             self.events.as_slice(),
             chunk,
-            members,
+            self.acting(),
         )
     }
 
@@ -206,12 +248,15 @@ impl Group {
     {
         self.events.reserve(1)?;
         self.fates.reserve(1)?;
+        self.causes.reserve(1)?;
         let report = self.found(chunk)?;
+        let place = self.place();
         self.scrubs.keep(&report)?;
         let findings = report.found.len() as u64;
         let snaps = report.snaps.len() as u64;
         let completes = self.scrubs.close();
         self.fates.push_reserved(Fate::Closed);
+        note_completed(&mut self.causes, completes, place, chunk);
         self.events.push_reserved(Event::Close {
             chunk,
             answer: CloseAnswer::Closed { report, completes },

@@ -6,7 +6,7 @@ ghost use Rattle.pgs_lines.specs.Basics as basics;
 
 use super::contexts::context;
 use super::damages::damage;
-use super::objects::{kind, snap};
+use super::objects::{kind, members, rank, snap};
 use super::ops::op;
 use crate::basic::Basic;
 use crate::object::Object;
@@ -57,13 +57,13 @@ fn member(words: Option<&[u8]>) -> Result<(u32, u32), ReadError>
     Ok((group, osd))
 }
 
-// G, the last word.
+// A number, the last word.
 fn only(words: Option<&[u8]>) -> Result<u32, ReadError>
     ensures { Gives (λ x. x) result ((last fields.number).read (left 32 (option_copied words.entry))) }
 {
-    let (group, words) = number(words)?;
+    let (number, words) = number(words)?;
     ended(words)?;
-    Ok(group)
+    Ok(number)
 }
 
 fn begin(words: Option<&[u8]>) -> Result<Basic, ReadError>
@@ -95,9 +95,63 @@ fn damage_step(alloc: Global, words: Option<&[u8]>) -> Result<Basic, ReadError>
     })
 }
 
+fn interval(alloc: Global, words: Option<&[u8]>) -> Result<Basic, ReadError>
+    ensures { Gives (λ x. x) result (basics.interval_read (left 32 (option_copied words.entry))) }
+{
+    let (group, words) = number(words)?;
+    let acting = members(alloc, words)?;
+    Ok(Basic::Interval { group, acting })
+}
+
+fn job(words: Option<&[u8]>) -> Result<Basic, ReadError>
+    ensures { Gives (λ x. x) result (basics.job_read (left 32 (option_copied words.entry))) }
+{
+    let (group, words) = number(words)?;
+    let (kind, words) = kind(words)?;
+    let (rank, words) = rank(words)?;
+    let (moment, words) = number(words)?;
+    ended(words)?;
+    Ok(Basic::Job {
+        group,
+        kind,
+        rank,
+        moment,
+    })
+}
+
+// The step that a first word and the words behind it spell, where it says who acts or which scrubs may begin.
+#[tactic(auto, unfolding(crate::specs::Basics::plan_rows, crate::specs::Basics::plan_read))]
+fn plan_in(alloc: Global, word: &[u8], words: Option<&[u8]>) -> Result<Basic, ReadError>
+    ensures { Gives (λ x. x) result (basics.plan_read word.now (left 32 (option_copied words.entry))) }
+{
+    if is_word(word, b"interval") {
+        return interval(alloc, words);
+    }
+    if is_word(word, b"claim") {
+        let group = only(words)?;
+        return Ok(Basic::Claim { group });
+    }
+    if is_word(word, b"release") {
+        let (group, osd) = member(words)?;
+        return Ok(Basic::Release { group, osd });
+    }
+    if is_word(word, b"job") {
+        return job(words);
+    }
+    if is_word(word, b"unjob") {
+        let group = only(words)?;
+        return Ok(Basic::Unjob { group });
+    }
+    if is_word(word, b"pick") {
+        let moment = only(words)?;
+        return Ok(Basic::Pick { moment });
+    }
+    Err(ReadError::Outside)
+}
+
 // The step of a scrub that a first word and the words behind it spell.
 #[tactic(auto, unfolding(crate::specs::Basics::scrub_rows, crate::specs::Basics::scrub_read))]
-fn scrub_in(word: &[u8], words: Option<&[u8]>) -> Result<Basic, ReadError>
+fn scrub_in(alloc: Global, word: &[u8], words: Option<&[u8]>) -> Result<Basic, ReadError>
     ensures { Gives (λ x. x) result (basics.scrub_read word.now (left 32 (option_copied words.entry))) }
 {
     if is_word(word, b"begin") {
@@ -119,7 +173,7 @@ fn scrub_in(word: &[u8], words: Option<&[u8]>) -> Result<Basic, ReadError>
         let group = only(words)?;
         return Ok(Basic::Close { group });
     }
-    Err(ReadError::Outside)
+    plan_in(alloc, word, words)
 }
 
 /// The step that a first word and the words behind it spell, where it does one thing.
@@ -148,5 +202,5 @@ pub fn basic_in(alloc: Global, word: &[u8], words: Option<&[u8]>) -> Result<Basi
     if is_word(word, b"damage") {
         return damage_step(alloc, words);
     }
-    scrub_in(word, words)
+    scrub_in(alloc, word, words)
 }

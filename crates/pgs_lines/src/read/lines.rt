@@ -1,13 +1,12 @@
-ghost use Rattle.std.specs.Prelude.{◌≡◌, ◌++◌};
+ghost use Rattle.std.specs.Prelude.{◌≡◌};
 ghost use Rattle.std.specs.Option.{option_copied};
-ghost use Rattle.pgs_words.specs.Forms.{Gives, left, all_read};
-ghost use Rattle.pgs_words.specs.Fields as fields;
+ghost use Rattle.pgs_words.specs.Forms.{Gives, left};
 ghost use Rattle.pgs_lines.specs.Lines as lines;
 
+use super::objects::{call, members};
 use super::steps::step_in;
 use crate::line::Line;
-use pgs_words::{ReadError, ended, is_word, number, number_in, part, positive};
-use sqlite_items::Items;
+use pgs_words::{ReadError, ended, is_word, number, part, positive};
 use std::alloc::Global;
 
 fn pool(words: Option<&[u8]>) -> Result<Line, ReadError>
@@ -27,30 +26,6 @@ fn osd(words: Option<&[u8]>) -> Result<Line, ReadError>
     Ok(Line::Osd { osd, slots })
 }
 
-/// All words that are left, as numbers.
-fn numbers(alloc: Global, words: Option<&[u8]>) -> Result<Items<u32>, ReadError>
-    ensures { Gives (λ x. x) result (all_read (fields.number).read (left 32 (option_copied words.entry))) }
-{
-    let mut found = Items::new(alloc);
-    let mut rest = words;
-    while let Some(text) = rest {
-        let (word, words) = part(text, b' ');
-        found.push(number_in(word)?)?;
-        rest = words;
-    }
-    Ok(found)
-}
-
-fn members(alloc: Global, words: Option<&[u8]>) -> Result<Items<u32>, ReadError>
-    ensures { Gives (λ x. x) result ((lines.members_form).read (left 32 (option_copied words.entry))) }
-{
-    let members = numbers(alloc, words)?;
-    if members.is_empty() {
-        return Err(ReadError::Outside);
-    }
-    Ok(members)
-}
-
 fn group(alloc: Global, words: Option<&[u8]>) -> Result<Line, ReadError>
     ensures { Gives (λ x. x) result (lines.group_read (left 32 (option_copied words.entry))) }
 {
@@ -61,6 +36,22 @@ fn group(alloc: Global, words: Option<&[u8]>) -> Result<Line, ReadError>
         group,
         epoch,
         members,
+    })
+}
+
+fn fail(words: Option<&[u8]>) -> Result<Line, ReadError>
+    ensures { Gives (λ x. x) result (lines.fail_read (left 32 (option_copied words.entry))) }
+{
+    let (group, words) = number(words)?;
+    let (osd, words) = number(words)?;
+    let (call, words) = call(words)?;
+    let (number, words) = positive(words)?;
+    ended(words)?;
+    Ok(Line::Fail {
+        group,
+        osd,
+        call,
+        number,
     })
 }
 
@@ -84,6 +75,9 @@ fn line_of(alloc: Global, word: &[u8], words: Option<&[u8]>) -> Result<Line, Rea
     }
     if is_word(word, b"group") {
         return group(alloc, words);
+    }
+    if is_word(word, b"fail") {
+        return fail(words);
     }
     if is_word(word, b"end") {
         return end(words);

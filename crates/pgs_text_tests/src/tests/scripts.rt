@@ -1,5 +1,5 @@
 use pgs_lines::Line;
-use pgs_order::{after, allows, nothing_said, passed, passes};
+use pgs_order::{Declarations, after, allows, nothing_said, passed, passes};
 use pgs_script::parse_steps;
 use pgs_texts::ScriptError;
 use std::alloc::{AllocError, Global};
@@ -44,7 +44,6 @@ fn declarations(rt: HostRuntime) -> Result<(), Fail> {
         (b"end\n\n".as_slice(), "BadLine 2"),
         (b"end\n# x\n".as_slice(), "BadLine 2"),
         (b"pool 0\nend\n".as_slice(), "BadLine 2"),
-        (b"pool 1\n".as_slice(), "BadLine 1"),
         (b"pool 0\npool 0\n".as_slice(), "BadLine 2"),
         (b"\nosd 0 1\n".as_slice(), "BadLine 2"),
         (b"pool 0\nosd 0 1\nosd 0 1\n".as_slice(), "BadLine 3"),
@@ -61,6 +60,80 @@ fn declarations(rt: HostRuntime) -> Result<(), Fail> {
     ];
     for (text, wanted) in rows {
         let answer = said(rt.alloc(), text)?;
+        assert_eq!(rt; answer.as_str(), wanted);
+    }
+    Ok(())
+}
+
+#[test]
+fn pools(rt: HostRuntime) -> Result<(), Fail> {
+    let rows = [
+        (
+            b"pool 1\nosd 0 1\ngroup 1 2 0\ngroup 0 1 0\nsettle 1\nend\n".as_slice(),
+            "Steps 1",
+        ),
+        (
+            b"pool 3\nosd 0 1\ngroup 5 1 0\ngroup 0 1 0\ngroup 7 1 0\ngroup 2 1 0\ngroup 6 1 0\ngroup 1 1 0\ngroup 4 1 0\ngroup 3 1 0\nsettle 7\nsettle 3\nend\n".as_slice(),
+            "Steps 2",
+        ),
+        (b"pool 4\n".as_slice(), "Limit 1"),
+        (b"pool 4294967295\n".as_slice(), "Limit 1"),
+        (b"pool 4 0\n".as_slice(), "BadLine 1"),
+        (b"pool 1\npool 1\n".as_slice(), "BadLine 2"),
+        (b"pool 3\npool 4\n".as_slice(), "BadLine 2"),
+        (b"pool 1\nosd 0 1\npool 1\n".as_slice(), "BadLine 3"),
+        (
+            b"pool 1\nosd 0 1\ngroup 1 1 0\nend\n".as_slice(),
+            "BadLine 4",
+        ),
+        (
+            b"pool 1\nosd 0 1\ngroup 1 1 0\nsettle 1\n".as_slice(),
+            "BadLine 4",
+        ),
+        (
+            b"pool 1\nosd 0 1\ngroup 0 1 0\nfail 0 0 list 1\n".as_slice(),
+            "BadLine 4",
+        ),
+        (
+            b"pool 3\nosd 0 1\ngroup 5 1 0\ngroup 0 1 0\ngroup 7 1 0\ngroup 2 1 0\ngroup 6 1 0\ngroup 1 1 0\ngroup 3 1 0\nsettle 7\nend\n".as_slice(),
+            "BadLine 10",
+        ),
+        (b"pool 1\nosd 0 1\ngroup 2 1 0\n".as_slice(), "BadLine 3"),
+        (b"pool 3\nosd 0 1\ngroup 8 1 0\n".as_slice(), "BadLine 3"),
+        (
+            b"pool 1\nosd 0 1\ngroup 1 1 0\ngroup 1 1 0\n".as_slice(),
+            "BadLine 4",
+        ),
+        (
+            b"pool 1\nosd 0 1\nosd 1 1\ngroup 0 1 0\ngroup 1 1 1\npull 0 1\n".as_slice(),
+            "BadLine 6",
+        ),
+    ];
+    for (text, wanted) in rows {
+        let answer = said(rt.alloc(), text)?;
+        assert_eq!(rt; answer.as_str(), wanted);
+    }
+    Ok(())
+}
+
+// How many calls fail of the device by which the OSD 1 stores a group, and the epoch in which the group begins.
+fn told_of(alloc: Global, declared: &Declarations, group: u32) -> Result<String, AllocError> {
+    let fails = declared.failing(alloc, group, 1)?;
+    match declared.group(group) {
+        Some(found) => format!(in alloc; "{} {}", fails.len(), found.epoch),
+        None => format!(in alloc; "{} none", fails.len()),
+    }
+}
+
+#[test]
+fn groups_are_found(rt: HostRuntime) -> Result<(), Fail> {
+    let alloc = rt.alloc();
+    let text =
+        b"pool 1\nosd 0 1\nosd 1 1\ngroup 1 7 1\ngroup 0 4 0 1\nfail 0 1 write 2\nfail 0 0 write 2\nfail 1 1 read 1\nfail 0 1 list 2\nend\n".as_slice();
+    let script = parse_steps(alloc, text)?;
+    let rows = [(0, "2 4"), (1, "1 7"), (2, "0 none")];
+    for (group, wanted) in rows {
+        let answer = told_of(alloc, &script.declared, group)?;
         assert_eq!(rt; answer.as_str(), wanted);
     }
     Ok(())
@@ -115,6 +188,51 @@ fn steps(rt: HostRuntime) -> Result<(), Fail> {
         let answer = followed(rt.alloc(), rest)?;
         assert_eq!(rt; answer.as_str(), wanted);
     }
+    Ok(())
+}
+
+#[test]
+fn steps_of_plans(rt: HostRuntime) -> Result<(), Fail> {
+    let rows = [
+        (
+            b"interval 0 0\ninterval 0 0 2\nclaim 0\nrelease 0 2\njob 0 deep 255 7\nunjob 0\npick 0\nend\n".as_slice(),
+            "Steps 7",
+        ),
+        (b"interval 0 1\n".as_slice(), "BadLine 6"),
+        (b"interval 0 2 1\n".as_slice(), "BadLine 6"),
+        (b"interval 0 2 2\n".as_slice(), "BadLine 6"),
+        (b"interval 1 2\n".as_slice(), "BadLine 6"),
+        (b"claim 1\n".as_slice(), "BadLine 6"),
+        (b"release 0 1\n".as_slice(), "BadLine 6"),
+        (b"job 1 deep 0 0\n".as_slice(), "BadLine 6"),
+        (b"unjob 1\n".as_slice(), "BadLine 6"),
+        (b"fail 0 2 list 1\nclaim 0\nend\n".as_slice(), "Steps 1"),
+        (b"fail 0 1 list 1\n".as_slice(), "BadLine 6"),
+        (b"claim 0\nfail 0 2 list 1\n".as_slice(), "BadLine 7"),
+    ];
+    for (rest, wanted) in rows {
+        let answer = followed(rt.alloc(), rest)?;
+        assert_eq!(rt; answer.as_str(), wanted);
+    }
+    Ok(())
+}
+
+// A script with so many calls that fail, all the same.
+fn with_fails(alloc: Global, count: u32) -> Result<String, AllocError> {
+    let mut text = Vec::new(alloc);
+    for _ in 0..count {
+        text.extend_from_slice(b"fail 0 2 read 1\n")?;
+    }
+    text.extend_from_slice(b"end\n")?;
+    followed(alloc, text.as_slice())
+}
+
+#[test]
+fn limit_of_failing_calls(rt: HostRuntime) -> Result<(), Fail> {
+    let most = with_fails(rt.alloc(), 1_000)?;
+    assert_eq!(rt; most.as_str(), "Steps 0");
+    let more = with_fails(rt.alloc(), 1_001)?;
+    assert_eq!(rt; more.as_str(), "Limit 1006");
     Ok(())
 }
 

@@ -1,4 +1,5 @@
 //! Whole runs: scripts, with all that they print or the end of it.
+mod plans;
 mod queues;
 mod running;
 mod runs;

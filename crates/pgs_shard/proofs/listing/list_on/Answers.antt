@@ -2,7 +2,8 @@ use Rattle.std.proofs.Common.{rules, ◌≡◌, ◌<◌, true, false, [], ◌∷
 use Rattle.pgs_medium.specs.Device.{IsAnswered}
 use Rattle.pgs_medium.specs.declared.medium_error.MediumError.TheVariants.{Memory}
 use Rattle.pgs_chunk.specs.Positions.{Ascends}
-use Rattle.pgs_chunk.specs.Listings.{is_full}
+use Rattle.pgs_chunk.specs.Listings.{is_full, listing}
+use Rattle.pgs_shard_history.specs.Positions.{positions}
 use Rattle.pgs_range.specs.declared.bound.Bound.TheVariants.{Max}
 use Rattle.pgs_range.specs.declared.cursor.Cursor.TheVariants.{After}
 use Rattle.pgs_shard.specs.Listed.{IsListedOn}
@@ -21,14 +22,14 @@ pub returns-in_err-last-clause-device : goal.returns-in_err-last-clause-device
 returns-in_err-last-clause-device g c =
     let some : c.in_ok-id.field-0 ≡ Some c.in-Some.id = search rules in
     let e : c.from_residual-in_err-last.result ≡ Err Memory = search rules in
-    subst (λ r. IsListedOn c.args.limit (g.M.Medium.device c.args.medium.now) r (g.M.Medium.device c.next.new.self)) (sym e)
+    subst (λ r. IsListedOn c.args.limit (listing c.args.limit c.args.start.now (positions (reverse c.args.events.now))) (g.M.Medium.device c.args.medium.now) r (g.M.Medium.device c.next.new.self)) (sym e)
     (out_of_memory_later _ _ _ _ _ _ _ _ _ c.loop-medium.invariant (subst (λ a. IsAnswered c.loop-medium.cursor Max (g.M.Medium.device c.loop-medium.medium) a (g.M.Medium.device c.next.new.self)) some c.in_ok-id.ensures))
 
 pub returns-in_err-push-clause-device : goal.returns-in_err-push-clause-device
 returns-in_err-push-clause-device g c =
     let some : c.in_ok-id.field-0 ≡ Some c.in-Some.id = search rules in
     let e : c.from_residual-in_err-push.result ≡ Err Memory = search rules in
-    subst (λ r. IsListedOn c.args.limit (g.M.Medium.device c.args.medium.now) r (g.M.Medium.device c.next.new.self)) (sym e)
+    subst (λ r. IsListedOn c.args.limit (listing c.args.limit c.args.start.now (positions (reverse c.args.events.now))) (g.M.Medium.device c.args.medium.now) r (g.M.Medium.device c.next.new.self)) (sym e)
     (out_of_memory_later _ _ _ _ _ _ _ _ _ c.loop-medium.invariant (subst (λ a. IsAnswered c.loop-medium.cursor Max (g.M.Medium.device c.loop-medium.medium) a (g.M.Medium.device c.next.new.self)) some c.in_ok-id.ensures))
 
 pub loop-medium-smaller : goal.loop-medium-smaller

@@ -1,7 +1,11 @@
+ghost use Rattle.std.specs.Prelude.{◌≡◌, [], IfOk};
+
 use crate::tests::group::making::{REQUEST, made, write};
+use pgs_chunk::{Kind, Limits};
 use pgs_group::{Answer, Counts, Group, Step};
-use pgs_history::CollectAnswer;
+use pgs_history::{CollectAnswer, Made, ReserveAnswer};
 use pgs_request::Version;
+use sqlite_items::Items;
 use std::alloc::{AllocError, Global};
 use std::test::Fail;
 
@@ -93,5 +97,35 @@ fn counted(alloc: Global) -> Result<(u64, u64), AllocError> {
 #[test]
 fn counts_never_fall(rt: HostRuntime) -> Result<(), Fail> {
     assert_eq!(rt; counted(rt.alloc())?, (5, 0));
+    Ok(())
+}
+
+// A group of three OSDs.
+fn three(alloc: Global) -> Result<Group, AllocError>
+    ensures { IfOk result (λ group. group.past ≡ []) }
+{
+    let members = Items::from_slice(alloc, &[0, 1, 2])?;
+    let made = Made {
+        number: 0,
+        epoch: 4,
+        members,
+        limits: Limits::usual(),
+    };
+    Ok(Group::new(alloc, made))
+}
+
+// Where a scrub is to claim that claims at OSD 2 first.
+fn claimed_out_of_order(alloc: Global) -> Result<Option<u32>, AllocError> {
+    let mut group = three(alloc)?;
+    group.begin(Kind::Deep)?;
+    match group.reserve(1, 2, None)? {
+        ReserveAnswer::NotNext { next } => Ok(next),
+        _ => Ok(None),
+    }
+}
+
+#[test]
+fn a_claim_out_of_order(rt: HostRuntime) -> Result<(), Fail> {
+    assert!(rt; claimed_out_of_order(rt.alloc())? == Some(0));
     Ok(())
 }

@@ -1,5 +1,5 @@
-ghost use Rattle.std.specs.Prelude.{◌≡◌, true, is_some, IfOk};
-ghost use Rattle.pgs_history.specs.Answers.{primary};
+ghost use Rattle.std.specs.Prelude.{◌≡◌, [], ◌∷◌, map, IfOk};
+ghost use Rattle.pgs_history.specs.Acting.{IsActing};
 
 use pgs_bytes::Bytes;
 use pgs_chunk::Limits;
@@ -7,12 +7,14 @@ use pgs_history::Made;
 use pgs_name::Family;
 use pgs_op::Write;
 use pgs_request::{Op, Payload, ReqId, SnapContext, Snaps};
+use pgs_shards::OsdDevice;
 use sqlite_items::Items;
 use std::alloc::{AllocError, Global};
 
 // A group of the OSDs 2 and 0.
 pub fn made(alloc: Global) -> Result<Made, AllocError>
-    ensures { IfOk result (λ made. is_some (primary made) ≡ true) }
+    ensures members { IfOk result (λ made. made.members ≡ 2 ∷ 0 ∷ []) }
+    ensures acting { IfOk result (λ made. IsActing made made.members) }
 {
     let mut members = Items::new(alloc);
     members.push(2)?;
@@ -23,6 +25,26 @@ pub fn made(alloc: Global) -> Result<Made, AllocError>
         members,
         limits: Limits::usual(),
     })
+}
+
+// A device that doesn't fail.
+fn device(alloc: Global, osd: u32) -> OsdDevice
+    ensures { result.osd ≡ osd }
+{
+    OsdDevice {
+        osd,
+        failing: Items::new(alloc),
+    }
+}
+
+// The devices of the OSDs 2 and 0.
+pub fn devices(alloc: Global) -> Result<Vec<OsdDevice>, AllocError>
+    ensures { IfOk result (λ devices. map (λ d. d.osd) devices.items ≡ 2 ∷ 0 ∷ []) }
+{
+    let mut devices = Vec::new(alloc);
+    devices.push(device(alloc, 2))?;
+    devices.push(device(alloc, 0))?;
+    Ok(devices)
 }
 
 pub fn family(alloc: Global) -> Result<Family, AllocError> {

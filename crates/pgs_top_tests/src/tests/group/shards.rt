@@ -1,4 +1,4 @@
-use crate::tests::group::making::family;
+use crate::tests::group::making::{devices, family};
 use pgs_copy::Damage;
 use pgs_medium::Item;
 use pgs_name::HEAD;
@@ -8,7 +8,8 @@ use std::alloc::{AllocError, Global};
 use std::test::Fail;
 
 fn begun(alloc: Global) -> Result<Shards, AllocError> {
-    Shards::new(alloc, &[2, 0], 16)
+    let devices = devices(alloc)?;
+    Shards::new(alloc, devices.as_slice(), 16)
 }
 
 // The first item, for one OSD: how many items waited, which ones are applied, and how many events that OSD has.

@@ -6,7 +6,7 @@ use std::test::Fail;
 // A chunk that gives way to no write.
 const FIRM: &[u8] =
     b"pool 0\nosd 0 1\nosd 1 1\nosd 2 1\ngroup 0 4 0 1 2\nwrite 1 1 - k a - full text:x\n\
-begin 0 deep\nopen 0\n";
+begin 0 deep\nclaim 0\nclaim 0\nclaim 0\nopen 0\n";
 
 // Where so many writes of the chunk follow.
 fn script(alloc: Global, writes: u32) -> Result<Vec<u8>, AllocError> {

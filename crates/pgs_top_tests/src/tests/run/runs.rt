@@ -18,13 +18,14 @@ const WRITTEN: &[u8] =
 pull 0 5 : pulled 0 1\napply 0 5 : applied 1\napply 0 5 : not-yet 1\ntell 0 5 : told 1\n\
 pull 0 0 : pulled 0 1\napply 0 0 : applied 1\napply 0 0 : not-yet 1\ntell 0 0 : told 1\n\
 collect 0 1 2 : acked 4'1\nwrite 1 2 - - b - full text:x : repeat 4'1\n\
-damage 0 0 - - a head flip 1 1 : damaged\nbegin 0 deep : began 0.1\n\
-open 0 : opened 1 from min to max version 1 limit 25\npull 0 5 : pulled 1 1 asked 1\n\
-scan 0 5 : found - - a head\nscan 0 5 : more\nscan 0 5 : more\n\
-scan 0 5 : passed - - a head\nscan 0 5 : done\ntake 0 5 : taken 1 8\n\
+damage 0 0 - - a head flip 1 1 : damaged\nbegin 0 deep : began 0.1\nclaim 0 : claimed 5 0\n\
+claim 0 : reserved 0 0\nopen 0 : opened 1 from min to max version 1 limit 25\n\
+pull 0 5 : pulled 1 1 asked 1\nscan 0 5 : found - - a head\nscan 0 5 : more\n\
+scan 0 5 : more\nscan 0 5 : passed - - a head\nscan 0 5 : done\ntake 0 5 : taken 1 8\n\
 pull 0 0 : pulled 1 1 asked 1\nscan 0 0 : found - - a head\nscan 0 0 : more\n\
 scan 0 0 : more\nscan 0 0 : passed - - a head\nscan 0 0 : done\ntake 0 0 : taken 1 9\n\
-close 0 : closed 1 findings 1 snaps 0 completes\nclose 0 : closed-before 1\nend\n";
+close 0 : closed 1 findings 1 snaps 0 completes\nrelease 0 5 : released 0.1\n\
+release 0 0 : released 0.1\nclose 0 : closed-before 1\nend\n";
 
 #[test]
 fn one_run(rt: HostRuntime) -> Result<(), Fail> {
@@ -37,16 +38,17 @@ fn one_run(rt: HostRuntime) -> Result<(), Fail> {
 // Writes to which chunks give way, until one is firm.
 const PREEMPTING: &[u8] =
     b"pool 0\nosd 0 1\nosd 1 1\nosd 2 1\ngroup 0 4 0 1 2\nwrite 1 1 - - a - full text:123456789\n\
-settle 0\nbegin 0 deep\nopen 0\nwrite 1 2 - - a - attr _x text:v\nopen 0\n\
-write 1 3 - - a - attr _x text:v\nopen 0\nwrite 1 4 - - a - attr _x text:v\nopen 0\n\
-write 1 5 - - a - attr _x text:v\nopen 0\nwrite 1 6 - - a - attr _x text:v\nopen 0\n\
-write 1 7 - - a - attr _x text:v\nend\n";
+settle 0\nbegin 0 deep\nclaim 0\nclaim 0\nclaim 0\nopen 0\n\
+write 1 2 - - a - attr _x text:v\nopen 0\nwrite 1 3 - - a - attr _x text:v\nopen 0\n\
+write 1 4 - - a - attr _x text:v\nopen 0\nwrite 1 5 - - a - attr _x text:v\nopen 0\n\
+write 1 6 - - a - attr _x text:v\nopen 0\nwrite 1 7 - - a - attr _x text:v\nend\n";
 
 const PREEMPTED: &[u8] =
     b"write 1 1 - - a - full text:123456789 : accepted 4'1\npull 0 0 : pulled 0 1\n\
 apply 0 0 : applied 1\napply 0 0 : not-yet 1\ntell 0 0 : told 1\npull 0 1 : pulled 0 1\n\
 apply 0 1 : applied 1\napply 0 1 : not-yet 1\ntell 0 1 : told 1\npull 0 2 : pulled 0 1\n\
 apply 0 2 : applied 1\napply 0 2 : not-yet 1\ntell 0 2 : told 1\nbegin 0 deep : began 0.1\n\
+claim 0 : claimed 0 0\nclaim 0 : claimed 1 0\nclaim 0 : reserved 2 0\n\
 open 0 : opened 1 from min to max version 1 limit 25\n\
 write 1 2 - - a - attr _x text:v : accepted 4'2 preempts 1\n\
 open 0 : opened 2 from min to max version 2 limit 12\n\

@@ -10,12 +10,12 @@ const SWEPT: &[u8] =
 pull 0 0 : pulled 0 2\napply 0 0 : applied 1\napply 0 0 : applied 2\napply 0 0 : not-yet 2\n\
 tell 0 0 : told 2\npull 0 1 : pulled 0 2\napply 0 1 : applied 1\napply 0 1 : applied 2\n\
 apply 0 1 : not-yet 2\ntell 0 1 : told 2\nwrite 1 3 - k a - full text:z : accepted 4'3\n\
-begin 0 deep : began 0.1\nopen 0 : opened 1 from min to at - k b version 3 limit 1\n\
-pull 0 0 : pulled 2 3 asked 1\nscan 0 0 : not-yet 2 3\napply 0 0 : applied 3\n\
-scan 0 0 : found - k a head\nscan 0 0 : more\nscan 0 0 : more\n\
-scan 0 0 : passed - k a head\nscan 0 0 : done\ntake 0 0 : taken 3 10\n\
-pull 0 1 : pulled 2 3 asked 1\nscan 0 1 : not-yet 2 3\napply 0 1 : applied 3\n\
-scan 0 1 : found - k a head\nscan 0 1 : more\nscan 0 1 : more\n\
+begin 0 deep : began 0.1\nclaim 0 : claimed 0 0\nclaim 0 : reserved 1 0\n\
+open 0 : opened 1 from min to at - k b version 3 limit 1\npull 0 0 : pulled 2 3 asked 1\n\
+scan 0 0 : not-yet 2 3\napply 0 0 : applied 3\nscan 0 0 : found - k a head\n\
+scan 0 0 : more\nscan 0 0 : more\nscan 0 0 : passed - k a head\nscan 0 0 : done\n\
+take 0 0 : taken 3 10\npull 0 1 : pulled 2 3 asked 1\nscan 0 1 : not-yet 2 3\n\
+apply 0 1 : applied 3\nscan 0 1 : found - k a head\nscan 0 1 : more\nscan 0 1 : more\n\
 scan 0 1 : passed - k a head\nscan 0 1 : done\ntake 0 1 : taken 3 10\n\
 close 0 : closed 1 findings 0 snaps 0\n\
 open 0 : opened 2 from at - k b to max version 2 limit 1\npull 0 0 : pulled 3 3 asked 2\n\
@@ -23,7 +23,8 @@ scan 0 0 : found - k b head\nscan 0 0 : more\nscan 0 0 : more\n\
 scan 0 0 : passed - k b head\nscan 0 0 : done\ntake 0 0 : taken 3 17\n\
 pull 0 1 : pulled 3 3 asked 2\nscan 0 1 : found - k b head\nscan 0 1 : more\n\
 scan 0 1 : more\nscan 0 1 : passed - k b head\nscan 0 1 : done\ntake 0 1 : taken 3 17\n\
-close 0 : closed 2 findings 0 snaps 0 completes\nend\n";
+close 0 : closed 2 findings 0 snaps 0 completes\nrelease 0 0 : released 0.1\n\
+release 0 1 : released 0.1\nend\n";
 
 #[test]
 fn chunks_of_one_position(rt: HostRuntime) -> Result<(), Fail> {
@@ -35,7 +36,7 @@ fn chunks_of_one_position(rt: HostRuntime) -> Result<(), Fail> {
 // A write in a firm chunk, which is sent twice, and taken up once the chunk is closed.
 const PARKING: &[u8] =
     b"pool 0\nosd 0 1\nosd 1 1\nosd 2 1\ngroup 0 4 0 1 2\nwrite 1 1 - k a - full text:x\n\
-write 1 2 - k b - full text:y\nsettle 0\nbegin 0 deep\nopen 0\n\
+write 1 2 - k b - full text:y\nsettle 0\nbegin 0 deep\nclaim 0\nclaim 0\nclaim 0\nopen 0\n\
 write 1 3 - k b - attr _x text:v\nwrite 1 4 - k a - attr _x text:v\n\
 write 1 4 - k a - attr _x text:v\ncollect 0 1 4\npull 0 0\nscan 0 0\nscan 0 0\nscan 0 0\n\
 scan 0 0\nscan 0 0\ntake 0 0\npull 0 1\nscan 0 1\nscan 0 1\nscan 0 1\nscan 0 1\nscan 0 1\n\
@@ -48,6 +49,7 @@ pull 0 0 : pulled 0 2\napply 0 0 : applied 1\napply 0 0 : applied 2\napply 0 0 :
 tell 0 0 : told 2\npull 0 1 : pulled 0 2\napply 0 1 : applied 1\napply 0 1 : applied 2\n\
 apply 0 1 : not-yet 2\ntell 0 1 : told 2\npull 0 2 : pulled 0 2\napply 0 2 : applied 1\n\
 apply 0 2 : applied 2\napply 0 2 : not-yet 2\ntell 0 2 : told 2\nbegin 0 deep : began 0.1\n\
+claim 0 : claimed 0 0\nclaim 0 : claimed 1 0\nclaim 0 : reserved 2 0\n\
 open 0 : opened 1 from min to at - k b version 1 limit 1 firm\n\
 write 1 3 - k b - attr _x text:v : accepted 4'3\n\
 write 1 4 - k a - attr _x text:v : parked from min to at - k b\n\
@@ -72,8 +74,8 @@ fn a_write_that_waits(rt: HostRuntime) -> Result<(), Fail> {
 const WAITING: &[u8] =
     b"pool 0\nosd 0 1\nosd 1 1\nosd 2 1\ngroup 0 4 0 1 2\nwrite 1 1 - k a - full text:x\n\
 write 1 2 - k b - full text:y\nwrite 1 3 - k a - full text:z\nsettle 0\n\
-write 1 4 - k a - full text:w\nwrite 1 5 - k b - full text:v\nbegin 0 deep\nopen 0\n\
-pull 0 1\nscan 0 1\napply 0 1\napply 0 1\nscan 0 1\nend\n";
+write 1 4 - k a - full text:w\nwrite 1 5 - k b - full text:v\nbegin 0 deep\nclaim 0\n\
+claim 0\nclaim 0\nopen 0\npull 0 1\nscan 0 1\napply 0 1\napply 0 1\nscan 0 1\nend\n";
 
 const WAITED: &[u8] =
     b"write 1 1 - k a - full text:x : accepted 4'1\nwrite 1 2 - k b - full text:y : accepted 4'2\n\
@@ -83,7 +85,8 @@ pull 0 1 : pulled 0 3\napply 0 1 : applied 1\napply 0 1 : applied 2\napply 0 1 :
 apply 0 1 : not-yet 3\ntell 0 1 : told 3\npull 0 2 : pulled 0 3\napply 0 2 : applied 1\n\
 apply 0 2 : applied 2\napply 0 2 : applied 3\napply 0 2 : not-yet 3\ntell 0 2 : told 3\n\
 write 1 4 - k a - full text:w : accepted 4'4\nwrite 1 5 - k b - full text:v : accepted 4'5\n\
-begin 0 deep : began 0.1\nopen 0 : opened 1 from min to at - k b version 4 limit 1\n\
+begin 0 deep : began 0.1\nclaim 0 : claimed 0 0\nclaim 0 : claimed 1 0\n\
+claim 0 : reserved 2 0\nopen 0 : opened 1 from min to at - k b version 4 limit 1\n\
 pull 0 1 : pulled 3 5 asked 1\nscan 0 1 : not-yet 3 4\napply 0 1 : applied 4\n\
 apply 0 1 : applied 5\nscan 0 1 : found - k a head\nend\n";
 

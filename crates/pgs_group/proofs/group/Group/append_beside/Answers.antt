@@ -28,8 +28,10 @@ invariant_of-self-3 c =
       told = c.self.inside.told;
       collected = c.self.inside.collected;
       scrubs = c.self.inside.scrubs;
+      acting = c.self.inside.acting;
+      causes = c.self.inside.causes;
       fates = c.self.inside.fates;
     } in
     subst (AreTied new) (pushed _ _ _ _ c.reserve.ensures.items c.push_reserved.ensures.items)
     (tied_beside c.self.inside c.self.inside.made (reverse c.self.inside.events.items) c.args.write c.next_version-version.result c.args.effects new c.self.invariant idle making
-    (search rules) (search rules) (search rules) (search rules) (search rules) (search rules) c.forget.ensures refl refl refl refl refl refl)
+    (search rules) (search rules) (search rules) (search rules) (search rules) (search rules) c.forget.ensures refl refl refl refl refl refl (record { made = refl; acting = refl; causes = refl }))

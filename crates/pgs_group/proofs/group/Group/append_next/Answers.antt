@@ -22,10 +22,12 @@ invariant_of-self-3 c =
       told = c.self.inside.told;
       collected = c.self.inside.collected;
       scrubs = c.self.inside.scrubs;
+      acting = c.self.inside.acting;
+      causes = c.self.inside.causes;
       fates = c.self.inside.fates;
     } in
     let effects : AreEffects c.self.inside.made (reverse c.self.inside.events.items) write c.args.effects =
     effects_taken c.self.inside.made (reverse c.self.inside.events.items) write c.self.inside.waiting c.take_first.new.self c.self.invariant.waits (search rules) c.args.effects due in
     subst (AreTied new) (pushed _ _ _ _ c.reserve.ensures.items c.push_reserved.ensures.items)
     (tied_taken c.self.inside c.self.inside.made (reverse c.self.inside.events.items) write c.next_version-version.result c.args.effects new c.self.invariant effects
-    (search rules) (search rules) (search rules) (search rules) (search rules) (search rules) (search rules) refl refl refl refl refl refl)
+    (search rules) (search rules) (search rules) (search rules) (search rules) (search rules) (search rules) refl refl refl refl refl refl (record { made = refl; acting = refl; causes = refl }))

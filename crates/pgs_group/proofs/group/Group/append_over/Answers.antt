@@ -33,9 +33,11 @@ invariant_of-self-3 c =
       told = c.self.inside.told;
       collected = c.self.inside.collected;
       scrubs = c.give_way.new.self;
+      acting = c.self.inside.acting;
+      causes = c.self.inside.causes;
       fates = c.push_reserved.new.self;
     } in
     subst (AreTied new) (pushed _ _ _ _ c.reserve.ensures.items c.push_reserved-2.ensures.items)
     (tied_over c.self.inside c.self.inside.made (reverse c.self.inside.events.items) c.args.write c.next_version-version.result c.args.effects c.args.chunk new c.self.invariant idle
     making (search rules) (search rules) (search rules) (search rules) (search rules) (search rules) c.forget.ensures (search rules) c.give_way.ensures refl refl refl
-    refl)
+    refl (record { made = refl; acting = refl; causes = refl }))

@@ -21,8 +21,10 @@ invariant_of-self-2 c =
       told = c.self.inside.told;
       collected = c.self.inside.collected;
       scrubs = c.self.inside.scrubs;
+      acting = c.self.inside.acting;
+      causes = c.self.inside.causes;
       fates = c.self.inside.fates;
     } in
     subst (AreTied new) (pushed _ _ _ _ c.reserve.ensures.items c.push_reserved.ensures.items)
     (tied_parked c.self.inside new c.self.inside.made (reverse c.self.inside.events.items) c.args.write c.in-Ok-copy_of.copy c.args.range c.self.invariant waiting (search rules)
-    (search rules) c.forget.ensures refl refl refl refl refl refl refl)
+    (search rules) c.forget.ensures refl refl refl refl refl refl refl (record { made = refl; acting = refl; causes = refl }))

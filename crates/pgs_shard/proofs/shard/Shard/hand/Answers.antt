@@ -1,4 +1,4 @@
-use Rattle.std.proofs.Common.{rules, ◌≡◌, Some, sym}
+use Rattle.std.proofs.Common.{rules, ◌≡◌, Some}
 use Rattle.pgs_shard.specs.Scan.{handed}
 use Rattle.pgs_shard.proofs.Steps.{handed_in_range}
 use Rattle.pgs_shard.proofs.shard.Shard.hand.Goals as goal

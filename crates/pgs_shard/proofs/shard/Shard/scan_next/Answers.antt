@@ -1,4 +1,4 @@
-use Rattle.std.proofs.Common.{rules, true, false, ◌≡◌, ◌∷◌, [], Some, None, Ok, Err, reverse, subst, sym, ap, ◌∙◌, arith}
+use Rattle.std.proofs.Common.{rules, true, false, ◌≡◌, Some, Ok, Err, reverse, subst, sym, arith}
 use Rattle.std.proofs.lemmas.List.{reverse-append}
 use Rattle.pgs_medium.specs.declared.medium_error.MediumError.TheVariants as errors
 use Rattle.pgs_scan.specs.Calls.{IsCalled, IsOnlyRead}

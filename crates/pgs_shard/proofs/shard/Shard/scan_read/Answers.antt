@@ -1,4 +1,4 @@
-use Rattle.std.proofs.Common.{rules, ◌≡◌, Some, None, Ok, Err, true, false, subst, sym, ap, ◌∙◌, arith}
+use Rattle.std.proofs.Common.{rules, ◌≡◌, Ok, Err, true, false, subst, sym, arith}
 use Rattle.std.proofs.lemmas.List.{reverse-append}
 use Rattle.pgs_scan.specs.Calls.{IsOnlyRead}
 use Rattle.pgs_scan.specs.declared.mark.Mark.TheVariants as marks

@@ -1,0 +1,23 @@
+-- What every step of a script keeps.
+pub mod Items
+pub mod Added
+pub mod Slots
+pub mod Members
+pub mod Asks
+pub mod Mapped
+pub mod InStep
+pub mod Acks
+pub mod Cites
+pub mod Versions
+pub mod Inside
+pub mod Compared
+pub mod Takes
+pub mod Steady
+pub mod Admissions
+pub mod Sound
+pub mod Pulls
+pub mod Opens
+pub mod Repeats
+pub mod Settles
+pub mod Sweeps
+pub mod Runs

@@ -1,5 +1,0 @@
-use Rattle.pgs_world.proofs.Sweeps.{IsScanning}
-use Rattle.pgs_world.proofs.world.World.scan_out.Given as goal
-
-abbrev pub invariant-loop : goal.invariant-loop
-invariant-loop l = IsScanning l.fn.self l.group l.osd l.most l.counter l.self

@@ -1,5 +1,0 @@
-use Rattle.pgs_world.proofs.Sweeps.{IsScrubbing}
-use Rattle.pgs_world.proofs.world.World.scrub_members.Given as goal
-
-abbrev pub invariant-loop-osd : goal.invariant-loop-osd
-invariant-loop-osd l = IsScrubbing l.fn.self l.group l.osd-items l.osd-index l.self

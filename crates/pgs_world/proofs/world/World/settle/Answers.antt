@@ -1,5 +1,0 @@
-use Rattle.pgs_world.proofs.Settles.{settling_next}
-use Rattle.pgs_world.proofs.world.World.settle.Goals as goal
-
-pub loop-osd-preserved : goal.loop-osd-preserved
-loop-osd-preserved c = settling_next _ _ _ _ _ _ _ c.loop-osd.invariant c.loop-osd-test.true c.in_ok-settle_member.ensures

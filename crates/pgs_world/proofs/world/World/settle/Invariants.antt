@@ -1,5 +1,0 @@
-use Rattle.pgs_world.proofs.Settles.{IsSettling}
-use Rattle.pgs_world.proofs.world.World.settle.Given as goal
-
-abbrev pub invariant-loop-osd : goal.invariant-loop-osd
-invariant-loop-osd l = IsSettling l.fn.self l.group l.osd-items l.osd-index l.self

@@ -1,5 +1,0 @@
-use Rattle.pgs_world.proofs.Sweeps.{IsWalking}
-use Rattle.pgs_world.proofs.world.World.walk.Given as goal
-
-abbrev pub invariant-loop : goal.invariant-loop
-invariant-loop l = IsWalking l.fn.self l.group l.most l.counter l.self
