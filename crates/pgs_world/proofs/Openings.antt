@@ -2,13 +2,10 @@
 use Rattle.std.proofs.Common.{◌≡◌, ℕ, ◌≤◌, List, [], ◌∷◌, map, refl, sym, ap, subst}
 use Rattle.std.specs.Prelude.{IsTrue}
 use Rattle.std.specs.List.{list_all, AllByRecursion}
-use Rattle.pgs_history.specs.Acting.{IsActing}
-use Rattle.pgs_history.specs.declared.made.Made.{Made}
-use Rattle.pgs_shards.specs.declared.osd_device.OsdDevice.{OsdDevice}
 use Rattle.pgs_slots.specs.Rows.{AreRowsSized, is_sized, free_rows}
 use Rattle.pgs_slots.specs.declared.osd_slots.OsdSlots.{OsdSlots}
 use Rattle.pgs_slots.specs.declared.row.Row.{Row}
-use Rattle.pgs_placement.specs.State.{PlacementState, opening as group_opening}
+use Rattle.pgs_placement.specs.State.{PlacementState}
 use Rattle.pgs_placement.specs.Sound.{IsSound as IsSoundGroup}
 use Rattle.pgs_placement.proofs.Slots.{free_sized}
 use Rattle.pgs_placement.proofs.Sound.{opening_sound}
@@ -16,11 +13,6 @@ use Rattle.pgs_world.specs.State.{WorldState, lent, own, mades, opening}
 use Rattle.pgs_world.specs.Opening.{IsOpening}
 use Rattle.pgs_world.specs.Pool.{AreApart}
 use Rattle.pgs_world.specs.Sound.{IsSound}
-
--- a group over devices of its members, who may act
-pub opening_is : (group : PlacementState) (made : Made) (devices : List OsdDevice) (stride : ℕ) → group ≡ group_opening made devices stride [] → map (λ device. device.osd) devices ≡ made.members
-    → IsActing made made.members → 1 ≤ stride → IsOpening group
-opening_is group made devices stride is named may least = subst IsOpening (sym is) (record { devices = devices; is = refl; named = named; acting = may; stride = least })
 
 one_sound : (group : PlacementState) (slots : List Row) → IsOpening group → AreRowsSized slots → IsSoundGroup (record group { slots = slots; done = [] })
 one_sound group slots h sized =

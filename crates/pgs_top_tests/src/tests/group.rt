@@ -1,5 +1,4 @@
-//! Groups, the shards of members, and worlds.
+//! Groups, and the shards of members.
 mod groups;
 mod making;
 mod shards;
-mod worlds;

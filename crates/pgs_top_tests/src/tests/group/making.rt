@@ -1,6 +1,3 @@
-ghost use Rattle.std.specs.Prelude.{◌≡◌, [], ◌∷◌, map, IfOk};
-ghost use Rattle.pgs_history.specs.Acting.{IsActing};
-
 use pgs_bytes::Bytes;
 use pgs_chunk::Limits;
 use pgs_history::Made;
@@ -12,10 +9,7 @@ use sqlite_items::Items;
 use std::alloc::{AllocError, Global};
 
 // A group of the OSDs 2 and 0.
-pub fn made(alloc: Global) -> Result<Made, AllocError>
-    ensures members { IfOk result (λ made. made.members ≡ 2 ∷ 0 ∷ []) }
-    ensures acting { IfOk result (λ made. IsActing made made.members) }
-{
+pub fn made(alloc: Global) -> Result<Made, AllocError> {
     let mut members = Items::new(alloc);
     members.push(2)?;
     members.push(0)?;
@@ -28,9 +22,7 @@ pub fn made(alloc: Global) -> Result<Made, AllocError>
 }
 
 // A device that doesn't fail.
-fn device(alloc: Global, osd: u32) -> OsdDevice
-    ensures { result.osd ≡ osd }
-{
+fn device(alloc: Global, osd: u32) -> OsdDevice {
     OsdDevice {
         osd,
         failing: Items::new(alloc),
@@ -38,9 +30,7 @@ fn device(alloc: Global, osd: u32) -> OsdDevice
 }
 
 // The devices of the OSDs 2 and 0.
-pub fn devices(alloc: Global) -> Result<Vec<OsdDevice>, AllocError>
-    ensures { IfOk result (λ devices. map (λ d. d.osd) devices.items ≡ 2 ∷ 0 ∷ []) }
-{
+pub fn devices(alloc: Global) -> Result<Vec<OsdDevice>, AllocError> {
     let mut devices = Vec::new(alloc);
     devices.push(device(alloc, 2))?;
     devices.push(device(alloc, 0))?;
