@@ -1,0 +1,9 @@
+use Rattle.std.proofs.Common.{◌≡◌, ◌-◌, []}
+use Rattle.pgs_codec.proofs.Loop.{with_front}
+use Rattle.pgs_map_encoding.specs.Chains.{read_chain, last_of}
+use Rattle.pgs_map_encoding.specs.Entries.{attr}
+use Rattle.pgs_map_encoding.proofs.attrs_reading.take_all_attrs.Given as goal
+
+-- what was read and what is still to be read are all of it
+abbrev pub invariant-loop : goal.invariant-loop
+invariant-loop l = with_front l.pairs (read_chain attr (last_of l.pairs) (l.count - l.counter) l.reader) ≡ read_chain attr (last_of []) l.count l.fn.reader
