@@ -101,8 +101,8 @@ bound_laws =
     seen_laws bound_of parts_of_bound (λ b. true) (followed kind (λ byte. where_so (byte == 1) family))
     (followed_laws kind (λ byte. where_so (byte == 1) family) kind_laws (λ byte. where_laws (byte == 1) family family_laws))
     (λ p fits.
-        let parts = both (kind.fits p.0) (fits_where (p.0 == 1) family p.1) fits in
-        (bound_back p.0 p.1 (both (nat_lt p.0 256) (nat_lt p.0 3) parts.0).1 parts.1, refl))
+    let parts = both (kind.fits p.0) (fits_where (p.0 == 1) family p.1) fits in
+    (bound_back p.0 p.1 (both (nat_lt p.0 256) (nat_lt p.0 3) parts.0).1 parts.1, refl))
     (λ b fits test. bound_forth b)
 
 pub range_laws : IsSpelling range

@@ -14,11 +14,7 @@ use pgs_copy::Pairs;
 use std::alloc::Global;
 
 /// The attributes at the front of what is left, where an outcome allows them.
-pub fn take_attrs(
-    alloc: Global,
-    reader: &mut Reader,
-    outcome: Outcome,
-) -> Result<Pairs, FieldError>
+pub fn take_attrs(alloc: Global, reader: &mut Reader, outcome: Outcome) -> Result<Pairs, FieldError>
     ensures { Reads (λ x. x) reader.new result ((attrs outcome).read reader.old) }
 {
     let count = take_count(reader, outcome)?;

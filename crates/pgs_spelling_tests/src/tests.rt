@@ -1,4 +1,5 @@
 mod fields;
 mod infos;
+mod maps;
 mod places;
 mod snapsets;

@@ -2,17 +2,20 @@
 use pgs_bytes::Bytes;
 use pgs_codec::DecodeError;
 use pgs_info::ObjectInfo;
+use pgs_map::ScrubMap;
+use pgs_map_encoding::decode_map;
 use pgs_snapset::SnapSet;
 use std::alloc::{AllocError, Global};
 use std::test::Fail;
 
 // In place of a place: the text is whole.
-const WHOLE: usize = 255;
+pub const WHOLE: usize = 255;
 
 #[derive(Clone, Copy)]
-enum Kind {
+pub enum Kind {
     Info,
     SnapSet,
+    Map,
 }
 
 // The clone 7 of `obj` with key `k` in the space `ns`, a whiteout with both digests.
@@ -24,10 +27,11 @@ const SNAPSET: &[u8; 78] =
     b"\x53\x01\x09\x00\x00\x00\x00\x00\x00\x00\x02\x00\x00\x00\x04\x00\x00\x00\x00\x00\x00\x00\x64\x00\x00\x00\x00\x00\x00\x00\x02\x00\x00\x00\x04\x00\x00\x00\x00\x00\x00\x00\x02\x00\x00\x00\x00\x00\x00\x00\x09\x00\x00\x00\x00\x00\x00\x00\x00\x00\x00\x00\x00\x00\x00\x00\x01\x00\x00\x00\x08\x00\x00\x00\x00\x00\x00\x00";
 
 // The place at which a text is refused.
-fn place(alloc: Global, kind: Kind, text: &[u8]) -> Result<usize, AllocError> {
+pub fn place(alloc: Global, kind: Kind, text: &[u8]) -> Result<usize, AllocError> {
     match kind {
         Kind::Info => info_place(ObjectInfo::decode(alloc, text)),
         Kind::SnapSet => snapset_place(SnapSet::decode(alloc, text)),
+        Kind::Map => map_place(decode_map(alloc, text)),
     }
 }
 
@@ -47,8 +51,16 @@ fn snapset_place(decoded: Result<SnapSet, DecodeError>) -> Result<usize, AllocEr
     }
 }
 
+fn map_place(decoded: Result<ScrubMap, DecodeError>) -> Result<usize, AllocError> {
+    match decoded {
+        Ok(_) => Ok(WHOLE),
+        Err(DecodeError::Corrupt { at }) => Ok(at),
+        Err(DecodeError::Memory) => Err(AllocError),
+    }
+}
+
 // The places of the text's fronts, the shortest first, and of the whole text.
-fn of_fronts(alloc: Global, kind: Kind, text: &[u8]) -> Result<Vec<usize>, AllocError> {
+pub fn of_fronts(alloc: Global, kind: Kind, text: &[u8]) -> Result<Vec<usize>, AllocError> {
     let mut places = Vec::new(alloc);
     for length in 0..text.len() {
         let (front, _) = text.split_at(length);
@@ -69,7 +81,12 @@ fn with_change(alloc: Global, text: &[u8], at: usize, bits: u8) -> Result<Bytes,
 }
 
 // The places of the text with these bits of one byte changed, the first byte first.
-fn of_changes(alloc: Global, kind: Kind, text: &[u8], bits: u8) -> Result<Vec<usize>, AllocError> {
+pub fn of_changes(
+    alloc: Global,
+    kind: Kind,
+    text: &[u8],
+    bits: u8,
+) -> Result<Vec<usize>, AllocError> {
     let mut places = Vec::new(alloc);
     for at in 0..text.len() {
         let changed = with_change(alloc, text, at, bits)?;
