@@ -1,6 +1,8 @@
 -- The laws of fields in a row.
-use Rattle.std.proofs.Common.{◌≡◌, ℕ, zero, suc, ◌+◌, ◌-◌, ◌<◌, ◌≤◌, ◌&&◌, Bool, true, List, [], ◌∷◌, ◌++◌, length, length-append, Option, Some, None, Result, Ok, Err, refl, sym, ap, subst, ◌∙◌, append_assoc, append-nil, arith}
-use Rattle.std.specs.List.{flat_map}
+use Rattle.std.proofs.Common.{◌≡◌, ℕ, zero, suc, ◌+◌, ◌-◌, ◌<◌, ◌≤◌, ◌&&◌, Bool, true, false, get_or, take, drop, drop-cons, add-one, List, [], ◌∷◌, ◌++◌, length, length-append, Option, Some, None, Result, Ok, Err, refl, sym, ap, subst, ◌∙◌, append_assoc, append-nil, arith}
+use Rattle.std.specs.List.{flat_map, list_all}
+use Rattle.std.proofs.Math.Seq.{take-suc}
+use Rattle.std.proofs.Math.ListN.{drop_of_length-le}
 use Rattle.std.specs.Prelude.{slice_get}
 use Rattle.pgs_bytes.proofs.Facts.{both, joined}
 use Rattle.pgs_codec.specs.Reading.{Rest, Refusal, ◌>>=◌}
@@ -131,3 +133,40 @@ unfolding read_chain
 ends {A} next front count i rest total le so_far =
     let k : count - i ≡ 0 = omega arith in
     sym so_far ∙ rw k (ap (λ (all : List A). Ok (all, rest)) (append-nil front))
+
+-- ---- tests of a list, as a loop makes them
+
+-- one doesn't pass
+pub one_fails : {A : Type 0} (test : A → Bool) (s t : List A) (x : A) (total : Bool) → s ≡ x ∷ t → test x ≡ false → list_all test s ≡ total → total ≡ false
+one_fails test s t x total is e h = sym h ∙ ap (list_all test) is ∙ ap (λ b. b && list_all test t) e
+
+-- one passes
+pub one_passes : {A : Type 0} (test : A → Bool) (s t : List A) (x : A) (total : Bool) → s ≡ x ∷ t → test x ≡ true → list_all test s ≡ total → list_all test t ≡ total
+one_passes test s t x total is e h = sym (ap (list_all test) is ∙ ap (λ b. b && list_all test t) e) ∙ h
+
+-- none is left
+pub none_left : {A : Type 0} (test : A → Bool) (s : List A) (total : Bool) → s ≡ [] → list_all test s ≡ total → total ≡ true
+none_left test s total is h = sym h ∙ ap (list_all test) is
+
+-- the same in a row
+at_place : {A : Type 0} (xs : List A) (i : ℕ) (x : A) → i < length xs → x ≡ get_or xs i x → drop i xs ≡ x ∷ drop (i + 1) xs
+at_place {A} xs i x lt is = rw add-one (drop-cons xs i x lt ∙ ap (λ (y : A). y ∷ drop (suc i) xs) (sym is))
+
+last_taken : {A : Type 0} (xs : List A) (i : ℕ) (x : A) → i < length xs → x ≡ get_or xs i x → last_of (take (i + 1) xs) ≡ Some x
+last_taken {A} xs i x lt is =
+    let front : take (suc i) xs ≡ take i xs ++ get_or xs i x ∷ [] = take-suc xs i x lt in
+    rw add-one (ap last_of (front ∙ ap (λ (y : A). take i xs ++ y ∷ []) (sym is)) ∙ last_put (take i xs) x)
+
+pub follow_stops : {A : Type 0} (next : Option A → Field A) (xs : List A) (i : ℕ) (x : A) (total : Bool) → i < length xs → x ≡ get_or xs i x → (next (last_of (take i xs))).fits x ≡ false
+    → chain_fits next (last_of (take i xs)) (drop i xs) ≡ total → total ≡ false
+follow_stops next xs i x total lt is e h =
+    sym h ∙ ap (chain_fits next (last_of (take i xs))) (at_place xs i x lt is) ∙ ap (λ b. b && chain_fits next (Some x) (drop (i + 1) xs)) e
+
+pub follow_on : {A : Type 0} (next : Option A → Field A) (xs : List A) (i : ℕ) (x : A) (total : Bool) → i < length xs → x ≡ get_or xs i x → (next (last_of (take i xs))).fits x ≡ true
+    → chain_fits next (last_of (take i xs)) (drop i xs) ≡ total → chain_fits next (last_of (take (i + 1) xs)) (drop (i + 1) xs) ≡ total
+follow_on next xs i x total lt is e h =
+    ap (λ last. chain_fits next last (drop (i + 1) xs)) (last_taken xs i x lt is)
+    ∙ sym (ap (chain_fits next (last_of (take i xs))) (at_place xs i x lt is) ∙ ap (λ b. b && chain_fits next (Some x) (drop (i + 1) xs)) e) ∙ h
+
+pub follow_ends : {A : Type 0} (next : Option A → Field A) (xs : List A) (i : ℕ) (total : Bool) → length xs ≤ i → chain_fits next (last_of (take i xs)) (drop i xs) ≡ total → total ≡ true
+follow_ends next xs i total le h = sym h ∙ ap (chain_fits next (last_of (take i xs))) (drop_of_length-le xs le)

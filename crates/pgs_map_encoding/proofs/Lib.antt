@@ -5,3 +5,4 @@ pub mod Entries
 pub mod Maps
 pub mod Attrs
 pub mod Joined
+pub mod Spelled

@@ -7,7 +7,8 @@ use Rattle.pgs_codec.specs.Fields.{IsSpelling, AreBytes, u32, u64, fixed, follow
 use Rattle.pgs_codec.specs.Answers.{Decodes}
 use Rattle.pgs_codec.specs.declared.decode_error.DecodeError.{DecodeError}
 use Rattle.pgs_codec.proofs.Laws.{u32_laws, u64_laws, fixed_laws, followed_laws, seen_laws}
-use Rattle.pgs_codec.proofs.Whole.{whole_again, whole_found, one_value}
+use Rattle.pgs_codec.proofs.Whole.{whole_again, whole_found}
+use Rattle.pgs_codec.proofs.Steps.{ok_same}
 use Rattle.pgs_map_encoding.specs.Bounds.{range}
 use Rattle.pgs_map_encoding.specs.Entries.{entry, entry_spelling}
 use Rattle.pgs_map_encoding.specs.Maps.{marks, whose, numbers, entries, map_parts, map_of, parts_of, scrub_map, map_fits, map_spelling, read_map}
@@ -49,9 +50,9 @@ read_found text m bytes e =
     let f = whole_found scrub_map map_laws text m bytes e in
     (f.1, f.0)
 
-pub one_map : (m n : ScrubMap) → map_fits m ≡ true → map_fits n ≡ true → map_spelling n ≡ map_spelling m → n ≡ m
-unfolding map_fits map_spelling
-one_map m n p q e = one_value scrub_map map_laws n m q p e
+-- no other map is spelled as one that is read again
+pub only_map : (text : List ℕ) (m n : ScrubMap) → read_map text ≡ Ok m → map_fits n ≡ true → map_spelling n ≡ text → n ≡ m
+only_map text m n read fits spelled = ok_same n m (sym (read_again n fits) ∙ ap read_map spelled ∙ read)
 
 -- ---- what was decoded
 

@@ -1,7 +1,7 @@
 -- Bounds and ranges as bytes.
-use Rattle.std.specs.Prelude.{ℕ, Bool, true, not, nat_lt, ◌==◌, if◌then◌else◌, List, length, Option, Some, None}
+use Rattle.std.specs.Prelude.{ℕ, Bool, true, not, ◌&&◌, nat_lt, ◌==◌, if◌then◌else◌, List, length, Option, Some, None}
 use Rattle.std.specs.Ordering.{is_lt}
-use Rattle.pgs_name.specs.Bounds.{kept_key}
+use Rattle.pgs_name.specs.Bounds.{is_name, same_text, kept_key}
 use Rattle.pgs_name.specs.Families.{Family, family_named}
 use Rattle.pgs_range.specs.Ends.{bound_cmp}
 use Rattle.pgs_range.specs.declared.bound.Bound.{Bound}
@@ -16,6 +16,10 @@ FamilyParts = List ℕ × (List ℕ × List ℕ)
 
 abbrev pub family_parts : Field FamilyParts
 family_parts = followed (word 64) (λ space. followed (word 255) (λ key. name_beside key))
+
+-- a name that isn't the key before it
+abbrev pub is_name_beside : List ℕ → List ℕ → Bool
+is_name_beside key name = is_name name && not (same_text key name)
 
 abbrev pub family_of : FamilyParts → Family
 family_of p = family_named p.0 p.1.0 p.1.1

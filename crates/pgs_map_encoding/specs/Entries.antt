@@ -1,5 +1,5 @@
 -- Entries of stored copies as bytes.
-use Rattle.std.specs.Prelude.{ℕ, zero, suc, Bool, true, false, not, ◌&&◌, ◌||◌, ◌==◌, if◌then◌else◌, List, ◌++◌, Option, Some, None, is_some}
+use Rattle.std.specs.Prelude.{ℕ, ◌<◌, ◌^◌, length, nat_le, Bool, true, false, not, ◌&&◌, ◌||◌, ◌==◌, if◌then◌else◌, List, ◌++◌, Option, Some, None, is_some}
 use Rattle.std.specs.Option.{option_map}
 use Rattle.std.specs.Ordering.{is_lt, nat_cmp}
 use Rattle.std.specs.Cmp.Lexicographic.{slice_cmp}
@@ -71,6 +71,10 @@ attr_spelling p = spelled_text p.0 ++ spelled_text p.1
 abbrev pub attrs : Outcome → Field Pairs
 attrs o = chained (may_be o) attr_spelling attr
 
+-- four bytes tell the length of a name and of its value
+abbrev pub is_short : List ℕ × List ℕ → Bool
+is_short p = nat_le (length p.0) 4294967295 && nat_le (length p.1) 4294967295
+
 -- ---- entries
 
 -- a position is of a family of the range, and stands behind that of the entry before
@@ -112,6 +116,11 @@ entry_of p = record {
 abbrev pub outcome_of : Entry → Outcome
 outcome_of e =
     if e.stat_failed then StatFailed else if e.read_failed then ReadFailed else if is_some e.data_digest then Digested else Undigested
+
+-- four bytes tell a digest
+abbrev pub IsWord : Option ℕ → Type 0
+IsWord None = Unit {0}
+IsWord (Some n) = n < 2 ^ 32
 
 -- both digests
 abbrev pub both_digests : Option ℕ → Option ℕ → Option (ℕ × ℕ)

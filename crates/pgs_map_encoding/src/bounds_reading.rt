@@ -24,7 +24,8 @@ pub fn take_range(alloc: Global, reader: &mut Reader) -> Result<FamilyRange, Fie
     Err(FieldError::Bad { at })
 }
 
-fn is_below(a: &Bound, b: &Bound) -> bool
+/// Whether a bound lies below another.
+pub fn is_below(a: &Bound, b: &Bound) -> bool
     ensures { result ≡ is_below a.now b.now }
 {
     compare_bounds(a, b).is_lt()
@@ -89,13 +90,15 @@ fn take_name(alloc: Global, reader: &mut Reader, key: &Bytes) -> Result<Bytes, F
     Err(FieldError::Bad { at })
 }
 
-fn is_word(most: usize, text: &[u8]) -> bool
+/// Whether a space or a key may be this text.
+pub fn is_word(most: usize, text: &[u8]) -> bool
     ensures { result ≡ bounds.is_word most text.now }
 {
     text.len() <= most && is_plain(text) && text != b"-".as_slice()
 }
 
-fn is_name(text: &[u8]) -> bool
+/// Whether a name may be this text.
+pub fn is_name(text: &[u8]) -> bool
     ensures { result ≡ bounds.is_name text.now }
 {
     1 <= text.len() && text.len() <= 255 && is_plain(text)

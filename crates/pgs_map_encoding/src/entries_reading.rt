@@ -9,12 +9,13 @@ ghost use Rattle.pgs_map_encoding.specs.Entries.{may_be, may_follow, facts, entr
 ghost use Rattle.pgs_map_encoding.specs.Maps.{entries};
 
 use crate::attrs_reading::take_attrs;
+use crate::fits::may_follow;
 use crate::outcome::Outcome;
 use crate::outcomes::{has_digests, is_read_failure, is_stat_failure, may_be, take_outcome};
 use pgs_codec::{FieldError, Reader};
 use pgs_copy::Pairs;
 use pgs_map::Entry;
-use pgs_name::{ObjectId, is_before};
+use pgs_name::ObjectId;
 use pgs_range::FamilyRange;
 use sqlite_items::Items;
 use std::alloc::Global;
@@ -80,19 +81,10 @@ fn take_position(
 {
     let at = reader.place();
     let id = reader.take_id(alloc)?;
-    if may_follow(range, before, &id) {
+    if may_follow(range, before.as_slice(), &id) {
         return Ok(id);
     }
     Err(FieldError::Bad { at })
-}
-
-fn may_follow(range: &FamilyRange, before: &Items<Entry>, id: &ObjectId) -> bool
-    ensures { result ≡ may_follow range.now (last_of before.now) id.now }
-{
-    match before.as_slice().last() {
-        Some(last) => range.in_range(&id.family) && is_before(&last.id, id),
-        None => range.in_range(&id.family),
-    }
 }
 
 fn take_facts(

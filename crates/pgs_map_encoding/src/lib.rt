@@ -7,6 +7,7 @@ mod bounds_writing;
 mod encoding;
 mod entries_reading;
 mod entries_writing;
+mod fits;
 mod map_reading;
 mod map_writing;
 mod outcome;

@@ -1,5 +1,5 @@
 //! Spelling a scrub map, part by part. Nothing is said of the vector where memory runs out.
-ghost use Rattle.std.specs.Prelude.{◌≡◌, ◌++◌, OnOk};
+ghost use Rattle.std.specs.Prelude.{◌≡◌, ◌++◌, true, OnOk};
 ghost use Rattle.pgs_map_encoding.specs.Maps.{marks, whose, numbers, entries, parts_of, map_spelling};
 
 use crate::bounds_writing::put_range;
@@ -10,7 +10,8 @@ use std::alloc::AllocError;
 
 /// Appends the spelling of a map.
 pub fn put_map(into: &mut Vec<u8>, map: &ScrubMap) -> Result<(), AllocError>
-    ensures { OnOk result (into.new.items ≡ into.old.items ++ map_spelling map.now) }
+    ensures spelled { OnOk result (into.new.items ≡ into.old.items ++ map_spelling map.now) }
+    ensures numbered { OnOk result (numbers.fits (parts_of map.now).1.0 ≡ true) }
 {
     put_marks(into)?;
     put_numbers(into, map)?;
@@ -28,7 +29,8 @@ fn put_marks(into: &mut Vec<u8>) -> Result<(), AllocError>
 
 #[tactic(auto, using(crate::proofs::Joined::three))]
 fn put_numbers(into: &mut Vec<u8>, map: &ScrubMap) -> Result<(), AllocError>
-    ensures { OnOk result (into.new.items ≡ into.old.items ++ numbers.spell (parts_of map.now).1.0) }
+    ensures spelled { OnOk result (into.new.items ≡ into.old.items ++ numbers.spell (parts_of map.now).1.0) }
+    ensures fits { OnOk result (numbers.fits (parts_of map.now).1.0 ≡ true) }
 {
     put_whose(into, map)?;
     put_u64(into, map.needed)?;
@@ -37,7 +39,8 @@ fn put_numbers(into: &mut Vec<u8>, map: &ScrubMap) -> Result<(), AllocError>
 
 #[tactic(auto, using(crate::proofs::Joined::three))]
 fn put_whose(into: &mut Vec<u8>, map: &ScrubMap) -> Result<(), AllocError>
-    ensures { OnOk result (into.new.items ≡ into.old.items ++ whose.spell (parts_of map.now).1.0.0) }
+    ensures spelled { OnOk result (into.new.items ≡ into.old.items ++ whose.spell (parts_of map.now).1.0.0) }
+    ensures fits { OnOk result (whose.fits (parts_of map.now).1.0.0 ≡ true) }
 {
     put_u32(into, map.osd)?;
     put_u64(into, map.serial)?;
