@@ -1,5 +1,5 @@
 -- No list holds a float, so its text is the compact one.
-use Rattle.std.proofs.Common.{◌≡◌, ℕ, Bool, true, false, ◌||◌, ◌==◌, cond, List, [], ◌∷◌, Option, Some, None, option_map, map, codes, refl, sym, ap, ◌∙◌, subst}
+use Rattle.std.proofs.Common.{◌≡◌, ℕ, Bool, true, false, ◌||◌, ◌==◌, cond, List, [], ◌∷◌, Option, Some, None, option_map, map, codes, refl, ap, ◌∙◌}
 use Rattle.serde_json.specs.Data.{Data, Members, string, number, unsigned}
 use Rattle.serde_json.specs.View.{view, items_of}
 use Rattle.serde_json.specs.Written.{has_float, items_have_float, members_have_float, compact_text}
@@ -11,7 +11,6 @@ use Rattle.pgs_find.specs.declared.snap_error.SnapError.TheVariants.{CloneMissin
 use Rattle.pgs_find.specs.SnapNames.{snap_word, snap_names_of, has_snap}
 use Rattle.pgs_find.specs.ObjectNames.{object_word, object_names_of}
 use Rattle.pgs_find.specs.ShardNames.{shard_word, shard_names_of}
-use Rattle.pgs_incons.specs.declared.chosen.Chosen.{Chosen}
 use Rattle.pgs_incons.specs.declared.finding.Finding.{Finding}
 use Rattle.pgs_incons.specs.declared.shard_finding.ShardFinding.{ShardFinding}
 use Rattle.pgs_list_json.specs.Members.{with_first, members_in, array_of, words_data, numbers_data, only_where}

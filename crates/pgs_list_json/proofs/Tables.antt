@@ -1,6 +1,6 @@
 -- Members put one after another, and tables of members.
-use Rattle.std.proofs.Common.{◌≡◌, List, [], ◌∷◌, Option, Some, None, Bool, true, false, codes, refl}
-use Rattle.serde_json.specs.Data.{Data, Members, no_members, put}
+use Rattle.std.proofs.Common.{◌≡◌, [], ◌∷◌, Option, Some, None, codes, refl}
+use Rattle.serde_json.specs.Data.{Data, no_members, put}
 use Rattle.pgs_list_json.specs.Members.{members_in, put_where}
 
 pub two : (epoch list : Data) → put (codes "inconsistents") list (put (codes "epoch") epoch no_members)

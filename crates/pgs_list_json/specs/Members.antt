@@ -1,6 +1,5 @@
 -- Objects by a table of their members, and arrays of what is alike.
-use Rattle.std.specs.Prelude.{ℕ, Bool, true, false, List, [], ◌∷◌, Option, Some, None, option_map, map}
-use Rattle.std.specs.List.{filter}
+use Rattle.std.specs.Prelude.{ℕ, Bool, true, false, List, [], ◌∷◌, Option, Some, None, map}
 use Rattle.serde_json.specs.Data.{Data, array, object, string, number, unsigned, Members, no_members, member, put}
 use Rattle.serde_json.specs.View.{items_of}
 
