@@ -1,5 +1,5 @@
 -- The laws of entries as bytes.
-use Rattle.std.proofs.Common.{◌≡◌, ℕ, zero, suc, ◌==◌, ◌&&◌, ◌||◌, Bool, true, false, not, ◌<◌, cond, List, Option, Some, None, refl, sym, ap, ◌∙◌, arith}
+use Rattle.std.proofs.Common.{◌≡◌, ℕ, zero, suc, ◌==◌, Bool, true, false, ◌<◌, cond, List, Option, Some, None, refl, sym, ◌∙◌, arith}
 use Rattle.std.specs.Prelude.{nat_lt, is_some}
 use Rattle.std.specs.Option.{option_map}
 use Rattle.std.proofs.lemmas.Bool.{eqb-true}
@@ -7,12 +7,11 @@ use Rattle.std.proofs.lemmas.Bool.Decides.{nat_tests}
 use Rattle.pgs_bytes.proofs.Facts.{both, true_false}
 use Rattle.pgs_range.specs.declared.family_range.FamilyRange.{FamilyRange}
 use Rattle.pgs_map.specs.declared.entry.Entry.{Entry}
-use Rattle.pgs_codec.specs.Fields.{IsSpelling, u8, u32, u64, text, such, followed, where_so, fits_where}
+use Rattle.pgs_codec.specs.Fields.{IsSpelling, u8, u32, u64, such, followed, where_so, fits_where}
 use Rattle.pgs_codec.specs.Ids.{id}
 use Rattle.pgs_codec.proofs.Laws.{u8_laws, u32_laws, u64_laws, text_laws, such_laws, followed_laws, seen_laws, where_laws}
 use Rattle.pgs_codec.proofs.IdLaws.{id_laws}
-use Rattle.pgs_map_encoding.specs.Chains.{chained}
-use Rattle.pgs_map_encoding.specs.Entries.{byte_of, outcome_in, is_outcome, outcome, is_stat_failure, is_read_failure, has_digests, may_be, is_name_behind, bytes, attr, attr_spelling, attrs, may_follow, Facts, facts, EntryParts, entry_parts, entry_of, outcome_of, both_digests, parts_of, tells_one, is_told, entry}
+use Rattle.pgs_map_encoding.specs.Entries.{byte_of, outcome_in, is_outcome, outcome, is_stat_failure, is_read_failure, has_digests, may_be, is_name_behind, bytes, attr, attr_spelling, attrs, may_follow, facts, EntryParts, entry_parts, entry_of, both_digests, parts_of, tells_one, is_told, entry}
 use Rattle.pgs_map_encoding.specs.declared.outcome.Outcome.{Outcome}
 use Rattle.pgs_map_encoding.specs.declared.outcome.Outcome.TheVariants.{Undigested, Digested, StatFailed, ReadFailed}
 use Rattle.pgs_map_encoding.proofs.Chains.{chained_laws}

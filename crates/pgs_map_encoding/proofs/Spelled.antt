@@ -13,14 +13,14 @@ use Rattle.pgs_name.specs.Bounds.{is_word, is_name, is_snap}
 use Rattle.pgs_name.specs.Families.{Family}
 use Rattle.pgs_name.specs.declared.object_id.ObjectId.{ObjectId}
 use Rattle.pgs_range.specs.declared.family_range.FamilyRange.{FamilyRange}
-use Rattle.pgs_range.specs.declared.bound.Bound.TheVariants.{Min, At, Max}
+use Rattle.pgs_range.specs.declared.bound.Bound.TheVariants.{At}
 use Rattle.pgs_copy.specs.Pairs.{Pairs, IsInOrder}
 use Rattle.pgs_map.specs.declared.entry.Entry.{Entry}
 use Rattle.pgs_map.specs.declared.scrub_map.ScrubMap.{ScrubMap}
-use Rattle.pgs_codec.specs.Fields.{u32, text, followed, fits_where}
+use Rattle.pgs_codec.specs.Fields.{u32, followed, fits_where}
 use Rattle.pgs_codec.specs.Ids.{word, name_beside, snap, id}
 use Rattle.pgs_map_encoding.specs.Bounds.{family_parts, parts_of_family, is_placed, is_name_beside, family, bound, is_below, range}
-use Rattle.pgs_map_encoding.specs.Chains.{chain_fits, last_of}
+use Rattle.pgs_map_encoding.specs.Chains.{chain_fits}
 use Rattle.pgs_map_encoding.specs.Entries.{outcome, bytes, is_name_behind, has_digests, both_digests, IsWord, tells_one, attr, attrs, is_short, may_be, may_follow, outcome_of, is_told, entry}
 use Rattle.pgs_map_encoding.specs.Maps.{numbers, parts_of, entries, map_fits, map_spelling, read_map}
 use Rattle.pgs_map_encoding.proofs.Maps.{read_again}
