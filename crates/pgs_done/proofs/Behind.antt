@@ -5,7 +5,7 @@ use Rattle.std.specs.List.{join_with_byte}
 use Rattle.pgs_bytes.proofs.Facts.{true_false}
 use Rattle.pgs_words.specs.Forms.{has_some}
 use Rattle.pgs_done.specs.Words.{behind, begins}
-use Rattle.pgs_done.specs.Done.{step_words, answer_words, done_line}
+use Rattle.pgs_done.specs.Done.{step_words, answer_part, done_line}
 use Rattle.pgs_done.specs.declared.done.Done.{Done}
 use Rattle.pgs_done.specs.declared.done.Done.TheVariants as dones
 
@@ -45,9 +45,10 @@ step_some (dones.Release group osd answer) = refl
 step_some (dones.Job group kind rank moment answer) = refl
 step_some (dones.Unjob group answer) = refl
 step_some (dones.Pick moment answer) = refl
+step_some (dones.Listed text) = refl
 
 -- the line of what was done, as it is appended
-pub printed : (d : Done) (out : List ℕ) → (((out ++ begins (step_words d)) ++ behind (codes ":" ∷ [])) ++ behind (answer_words d)) ++ 10 ∷ [] ≡ out ++ done_line d
+pub printed : (d : Done) (out : List ℕ) → ((out ++ begins (step_words d)) ++ behind (answer_part d)) ++ 10 ∷ [] ≡ out ++ done_line d
 printed d out =
-    let whole : join_with_byte 32 (step_words d ++ codes ":" ∷ answer_words d) ≡ begins (step_words d) ++ behind (codes ":" ∷ answer_words d) = join_more (step_words d) (codes ":" ∷ answer_words d) (step_some d) in
+    let whole : join_with_byte 32 (step_words d ++ answer_part d) ≡ begins (step_words d) ++ behind (answer_part d) = join_more (step_words d) (answer_part d) (step_some d) in
     rw whole (simp append_assoc)

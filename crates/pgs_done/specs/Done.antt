@@ -1,5 +1,5 @@
 -- How what was done is printed.
-use Rattle.std.specs.Prelude.{ℕ, List, [], ◌∷◌, ◌++◌, codes}
+use Rattle.std.specs.Prelude.{ℕ, Bool, true, false, if◌then◌else◌, List, [], ◌∷◌, ◌++◌, codes}
 use Rattle.std.specs.List.{join_with_byte}
 use Rattle.std.specs.Fmt.{decimal}
 use Rattle.pgs_lines.specs.Basics.{basic_said}
@@ -34,6 +34,7 @@ step_words (dones.Release group osd answer) = (basic_said (basics.Release group 
 step_words (dones.Job group kind rank moment answer) = (basic_said (basics.Job group kind rank moment)).words
 step_words (dones.Unjob group answer) = (basic_said (basics.Unjob group)).words
 step_words (dones.Pick moment answer) = (basic_said (basics.Pick moment)).words
+step_words (dones.Listed text) = text ∷ []
 
 abbrev pub answer_words : Done → List (List ℕ)
 answer_words (dones.Write client serial object context op answer) = write_words answer
@@ -54,10 +55,37 @@ answer_words (dones.Release group osd answer) = release_words group answer
 answer_words (dones.Job group kind rank moment answer) = job_words answer
 answer_words (dones.Unjob group answer) = unjob_words answer
 answer_words (dones.Pick moment answer) = pick_words answer
+answer_words (dones.Listed text) = []
 
 -- words with one space between two of them, and the line's end
 abbrev pub line_of : List (List ℕ) → List ℕ
 line_of words = join_with_byte 32 words ++ 10 ∷ []
 
+-- a list has no answer: its words are the list
+abbrev pub is_listed : Done → Bool
+is_listed (dones.Write client serial object context op answer) = false
+is_listed (dones.Admit client serial answer) = false
+is_listed (dones.Collect group client serial answer) = false
+is_listed (dones.Pull group osd before now asked) = false
+is_listed (dones.Apply group osd answer) = false
+is_listed (dones.Tell group osd applied) = false
+is_listed (dones.Damage group osd object snap damage answer) = false
+is_listed (dones.Begin group kind answer) = false
+is_listed (dones.Open group answer) = false
+is_listed (dones.Scan group osd answer) = false
+is_listed (dones.Take group osd answer) = false
+is_listed (dones.Close group answer) = false
+is_listed (dones.Interval group acting answer) = false
+is_listed (dones.Claim group answer) = false
+is_listed (dones.Release group osd answer) = false
+is_listed (dones.Job group kind rank moment answer) = false
+is_listed (dones.Unjob group answer) = false
+is_listed (dones.Pick moment answer) = false
+is_listed (dones.Listed text) = true
+
+-- a colon and the words of the answer, where there is one
+abbrev pub answer_part : Done → List (List ℕ)
+answer_part done = if is_listed done then [] else codes ":" ∷ answer_words done
+
 abbrev pub done_line : Done → List ℕ
-done_line done = line_of (step_words done ++ codes ":" ∷ answer_words done)
+done_line done = line_of (step_words done ++ answer_part done)

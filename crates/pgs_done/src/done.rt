@@ -1,3 +1,6 @@
+ghost use Rattle.std.specs.Prelude.{◌≡◌};
+ghost use Rattle.pgs_done.specs.Done.{is_listed};
+
 use crate::apply_answer::ApplyAnswer;
 use crate::begin_answer::BeginAnswer;
 use crate::claim_answer::ClaimAnswer;
@@ -13,6 +16,7 @@ use crate::scan_answer::ScanAnswer;
 use crate::take_answer::TakeAnswer;
 use crate::unjob_answer::UnjobAnswer;
 use crate::write_answer::WriteAnswer;
+use pgs_bytes::Bytes;
 use pgs_lines::{Damage, Kind, Object, Snap};
 use pgs_request::{Op, SnapContext};
 use sqlite_items::Items;
@@ -194,4 +198,21 @@ pub enum Done {
         /// The answer.
         answer: PickAnswer,
     },
+    /// What was found was listed. Its line is the list.
+    Listed {
+        /// The list, without a line end.
+        text: Bytes,
+    },
+}
+
+impl Done {
+    /// Whether it is a list.
+    pub fn is_listed(&self) -> bool
+        ensures { result ≡ is_listed self.now }
+    {
+        match self {
+            Done::Listed { .. } => true,
+            _ => false,
+        }
+    }
 }

@@ -256,6 +256,10 @@ step_kind (steps.Settle group) =
     kind_of plain_byte step_read (codes "settle") (last number) (λ x. steps.Settle x) settle_laws (λ ws. refl) refl group
 step_kind (steps.Sweep group k) =
     kind_of plain_byte step_read (codes "sweep") scrub_form (λ x. steps.Sweep x.0 x.1) scrub_laws (λ ws. refl) refl (group, k)
+step_kind (steps.ListObj group) =
+    kind_of plain_byte step_read (codes "list-obj") (last number) (λ x. steps.ListObj x) settle_laws (λ ws. refl) refl group
+step_kind (steps.ListSnap group) =
+    kind_of plain_byte step_read (codes "list-snap") (last number) (λ x. steps.ListSnap x) settle_laws (λ ws. refl) refl group
 
 basic_step_finds : FindsSpelled step_said basic_step_read
 basic_step_finds word ws x e =
@@ -268,7 +272,13 @@ step_finds = by_rows_finds step_said step_rows basic_step_read (
   row_finds plain_byte step_said (codes "settle") (last number) (λ x. steps.Settle x) settle_laws (λ y. refl),
   (
     row_finds plain_byte step_said (codes "sweep") scrub_form (λ x. steps.Sweep x.0 x.1) scrub_laws (λ y. refl),
-    tt,
+    (
+      row_finds plain_byte step_said (codes "list-obj") (last number) (λ x. steps.ListObj x) settle_laws (λ y. refl),
+      (
+        row_finds plain_byte step_said (codes "list-snap") (last number) (λ x. steps.ListSnap x) settle_laws (λ y. refl),
+        tt,
+      ),
+    ),
   ),
 )
     basic_step_finds
@@ -312,6 +322,8 @@ unfolding line_read line_rows
 step_passed_on (steps.Basic b) = basic_line_passed_on b
 step_passed_on (steps.Settle group) = refl
 step_passed_on (steps.Sweep group k) = refl
+step_passed_on (steps.ListObj group) = refl
+step_passed_on (steps.ListSnap group) = refl
 
 step_line_kind : (s : Step) → IsKind plain_byte step_read (step_said s) s → IsKind plain_byte line_read (step_said s) (lines.Step s)
 step_line_kind s k = record {
@@ -381,6 +393,8 @@ step_has_some : (s : Step) → has_some (step_said s).words ≡ true
 step_has_some (steps.Basic b) = basic_has_some b
 step_has_some (steps.Settle group) = refl
 step_has_some (steps.Sweep group k) = refl
+step_has_some (steps.ListObj group) = refl
+step_has_some (steps.ListSnap group) = refl
 
 line_has_some : (x : Line) → line_form.fits x ≡ true → has_some (line_form.spell x) ≡ true
 line_has_some (lines.Pool bits) e = refl

@@ -10,11 +10,15 @@ abbrev pub step_said : Step → Spelling
 step_said (steps.Basic basic) = basic_said basic
 step_said (steps.Settle group) = said (codes "settle") (last number) group
 step_said (steps.Sweep group k) = said (codes "sweep") scrub_form (group, k)
+step_said (steps.ListObj group) = said (codes "list-obj") (last number) group
+step_said (steps.ListSnap group) = said (codes "list-snap") (last number) group
 
 unfoldable pub step_rows : List (Row Step)
 step_rows =
     row (codes "settle") (last number) (λ x. steps.Settle x)
     ∷ row (codes "sweep") scrub_form (λ x. steps.Sweep x.0 x.1)
+    ∷ row (codes "list-obj") (last number) (λ x. steps.ListObj x)
+    ∷ row (codes "list-snap") (last number) (λ x. steps.ListSnap x)
     ∷ []
 
 abbrev pub basic_step_read : List ℕ → List (List ℕ) → Option Step
@@ -29,3 +33,9 @@ settle_read words = option_map (λ x. steps.Settle x) ((last number).read words)
 
 abbrev pub sweep_read : List (List ℕ) → Option Step
 sweep_read words = option_map (λ x. steps.Sweep x.0 x.1) (scrub_form.read words)
+
+abbrev pub list_obj_read : List (List ℕ) → Option Step
+list_obj_read words = option_map (λ x. steps.ListObj x) ((last number).read words)
+
+abbrev pub list_snap_read : List (List ℕ) → Option Step
+list_snap_read words = option_map (λ x. steps.ListSnap x) ((last number).read words)

@@ -21,4 +21,14 @@ pub enum Step {
         /// What is looked at.
         kind: Kind,
     },
+    /// What the scrubs of the group found of its objects' copies is listed.
+    ListObj {
+        /// The group.
+        group: u32,
+    },
+    /// What they found of its objects' snapshots is listed.
+    ListSnap {
+        /// The group.
+        group: u32,
+    },
 }

@@ -72,6 +72,8 @@ named_more : (gs more : List Group) (s : Step) → step_is_named gs s ≡ true �
 named_more gs more (steps.Basic b) e = basic_named_more gs more b e
 named_more gs more (steps.Settle group) e = any_more (λ g. g.group == group) gs more e
 named_more gs more (steps.Sweep group kind) e = any_more (λ g. g.group == group) gs more e
+named_more gs more (steps.ListObj group) e = any_more (λ g. g.group == group) gs more e
+named_more gs more (steps.ListSnap group) e = any_more (λ g. g.group == group) gs more e
 
 -- the words of an interval name one OSD at least
 basic_acting : (b : Basic) → (basic_said b).fits ≡ true → basic_has_acting b ≡ true
@@ -97,6 +99,8 @@ step_acting : (s : Step) → (step_said s).fits ≡ true → has_acting s ≡ tr
 step_acting (steps.Basic b) e = basic_acting b e
 step_acting (steps.Settle group) e = refl
 step_acting (steps.Sweep group kind) e = refl
+step_acting (steps.ListObj group) e = refl
+step_acting (steps.ListSnap group) e = refl
 
 -- ---- whole declarations
 

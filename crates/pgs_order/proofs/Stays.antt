@@ -35,6 +35,8 @@ step_stays : (s : Step) → passed (join_with_byte 32 (step_said s).words) ≡ f
 step_stays (steps.Basic basic) = basic_stays basic
 step_stays (steps.Settle group) = refl
 step_stays (steps.Sweep group kind) = refl
+step_stays (steps.ListObj group) = refl
+step_stays (steps.ListSnap group) = refl
 
 pub not_passed : (l : Line) → line.fits l ≡ true → passed (line.spell l) ≡ false
 not_passed (lines.Pool bits) e = refl

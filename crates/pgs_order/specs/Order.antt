@@ -148,6 +148,8 @@ abbrev pub step_is_named : List Group → Step → Bool
 step_is_named groups (steps.Basic basic) = basic_is_named groups basic
 step_is_named groups (steps.Settle group) = has_group groups group
 step_is_named groups (steps.Sweep group kind) = has_group groups group
+step_is_named groups (steps.ListObj group) = has_group groups group
+step_is_named groups (steps.ListSnap group) = has_group groups group
 
 -- a step may stand where all is declared, and `end` there and where nothing is
 abbrev pub allows : StepScript → Line → Bool

@@ -98,6 +98,8 @@ fn step_is_named(groups: &[Group], step: &Step) -> bool
         Step::Basic { basic } => basic_is_named(groups, basic),
         Step::Settle { group } => has_group(groups, *group),
         Step::Sweep { group, .. } => has_group(groups, *group),
+        Step::ListObj { group } => has_group(groups, *group),
+        Step::ListSnap { group } => has_group(groups, *group),
     }
 }
 

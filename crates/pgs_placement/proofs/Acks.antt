@@ -129,6 +129,7 @@ still a b (dones.Release group osd answer) before legal grows h = tt
 still a b (dones.Job group kind rank moment answer) before legal grows h = tt
 still a b (dones.Unjob group answer) before legal grows h = tt
 still a b (dones.Pick moment answer) before legal grows h = tt
+still a b (dones.Listed text) before legal grows h = tt
 
 -- all acknowledgements hold on
 pub acks_grow : (a b : PlacementState) → AreInStep a → AreInStep b → Grows a b → AreAcknowledged a.made a.members a.past a.done → AreAcknowledged b.made b.members b.past a.done

@@ -35,6 +35,7 @@ use Rattle.pgs_slots.specs.declared.row.Row.{Row}
 use Rattle.pgs_placement.specs.State.{PlacementState, opening}
 use Rattle.pgs_placement.specs.Basics.{applied_by, after_pulling, after_telling, after_applying, after_scanning}
 use Rattle.pgs_placement.specs.Scrubs.{after_beginning, scrub_of, claim_made, claimed_at, after_claiming, over_at, released_of, after_releasing, is_unlisted, primary_lists, opened_with, opened_by, opening_of, after_opening, found_taken, handed_taken, after_taking, after_closing}
+use Rattle.pgs_placement.specs.Lists.{after_listing}
 use Rattle.pgs_placement.specs.Admissions.{all_admitted}
 use Rattle.pgs_placement.specs.Steps.{basic_done, after_basic}
 use Rattle.pgs_placement.specs.Counts.{is_member, IsNamed}
@@ -46,7 +47,7 @@ use Rattle.pgs_placement.proofs.Admissions.{all_sound, all_made, all_add}
 use Rattle.pgs_placement.proofs.Inside.{wait_inside, used_most}
 use Rattle.pgs_placement.proofs.Versions.{have_versions}
 use Rattle.pgs_placement.proofs.Compared.{are_compared}
-use Rattle.pgs_placement.proofs.Steady.{steady_pull, steady_apply, steady_tell, steady_scan, steady_begin, steady_claim, steady_release, steady_open, steady_take, steady_close, basic_done_steady}
+use Rattle.pgs_placement.proofs.Steady.{steady_lent, steady_pull, steady_apply, steady_tell, steady_scan, steady_begin, steady_claim, steady_release, steady_open, steady_take, steady_close, basic_done_steady}
 
 -- ---- steps after which nothing is to be taken up
 
@@ -130,6 +131,15 @@ pub on_tell : (w : PlacementState) (group osd : ℕ) → IsSound w → IsOn w (a
 on_tell w group osd s =
     let now : PlacementState = after_telling w group osd in
     on_from w now (record { steady = steady_tell w group osd s; idle = idle_tell w.past osd (applied_by w osd) s.idle }) (from_one w now.past now.members w.slots (dones.Tell group osd _) (λ number is. tt))
+
+-- a list is a line, and changes nothing else
+pub on_list : (w : PlacementState) (text : List ℕ) → IsSound w → IsOn w (after_listing text w)
+on_list w text s =
+    let now : PlacementState = after_listing text w in
+    on_from w now (record {
+      steady = steady_lent w w.slots (dones.Listed text ∷ w.done) s.steady s.steady.sized (tt, s.steady.acknowledged);
+      idle = s.idle;
+    }) (from_one w w.past w.members w.slots (dones.Listed text) (λ number is. tt))
 
 pub on_scan : (w : PlacementState) (group osd : ℕ) → IsSound w → IsOn w (after_scanning w group osd)
 on_scan w group osd s =

@@ -6,6 +6,7 @@ pub mod Repeats
 pub mod Basics
 pub mod Scrubs
 pub mod Admissions
+pub mod Lists
 pub mod Sweeps
 pub mod Steps
 pub mod Counts

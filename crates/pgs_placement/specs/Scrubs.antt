@@ -99,7 +99,7 @@ after_releasing w group osd = released_of (over_at w osd) w group osd
 
 -- ---- open
 
--- the OSD at which a scrub still claims, or the chunk that is open: nothing is listed then
+-- whether nothing is listed: the scrub still claims at an OSD, or a chunk is open
 abbrev pub is_unlisted : Option ℕ → Option ℕ → Bool
 is_unlisted claims chunk = is_some claims || is_some chunk
 

@@ -12,6 +12,7 @@ use Rattle.pgs_placement.specs.State.{PlacementState}
 use Rattle.pgs_placement.specs.Admissions.{all_admitted}
 use Rattle.pgs_placement.specs.Basics.{after_write, after_collecting, after_pulling, after_telling, after_applying, after_damaging, after_scanning, after_changing}
 use Rattle.pgs_placement.specs.Scrubs.{after_beginning, after_claiming, after_releasing, after_opening, after_taking, after_closing}
+use Rattle.pgs_placement.specs.Lists.{obj_text, snap_text, after_listing}
 use Rattle.pgs_placement.specs.Repeats.{MOST, repeated}
 use Rattle.pgs_placement.specs.Sweeps.{swept}
 
@@ -75,3 +76,5 @@ abbrev pub after_step : PlacementState → Step → PlacementState
 after_step w (steps.Basic basic) = after_basic w basic
 after_step w (steps.Settle group) = settled w group w.made.members
 after_step w (steps.Sweep group kind) = swept w group kind
+after_step w (steps.ListObj group) = after_listing (obj_text w) w
+after_step w (steps.ListSnap group) = after_listing (snap_text w) w

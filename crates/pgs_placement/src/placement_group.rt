@@ -32,6 +32,7 @@ use std::marker::Model;
 use std::mem;
 
 mod admissions;
+mod lists;
 mod scrubs;
 mod slots;
 mod sweeps;
@@ -435,6 +436,8 @@ impl PlacementGroup {
             Step::Basic { basic } => self.basic(basic),
             Step::Settle { group } => self.settle(*group),
             Step::Sweep { group, kind } => self.sweep(*group, *kind),
+            Step::ListObj { .. } => self.list_obj(),
+            Step::ListSnap { .. } => self.list_snap(),
         }
     }
 }

@@ -131,6 +131,8 @@ module _ (settings : Settings) (declared : Declarations) (are : AreGroups declar
   step_named bits (steps.Basic (basics.Pick moment)) pool whole is = tt
   step_named bits (steps.Settle g) pool whole is = of_group g (steps.Settle g) is.declared (λ made numbered. tt)
   step_named bits (steps.Sweep g kind) pool whole is = of_group g (steps.Sweep g kind) is.declared (λ made numbered. tt)
+  step_named bits (steps.ListObj g) pool whole is = of_group g (steps.ListObj g) is.declared (λ made numbered. tt)
+  step_named bits (steps.ListSnap g) pool whole is = of_group g (steps.ListSnap g) is.declared (λ made numbered. tt)
 
   each_named : (bits : ℕ) (script : List Step) → declared.bits ≡ Some bits → are_whole declared ≡ true → AreNamedIn declared.groups script → AreNamed bits (mades_of settings declared) script
   each_named bits [] pool whole all = tt

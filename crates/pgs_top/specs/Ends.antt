@@ -84,14 +84,14 @@ pub record WritesFront (old new : Option (List ℕ)) (text : List ℕ) : Type 0 
   pub front : Appends old new (take count text)
 
 -- What was written under a status: the text of what happened, a front of it, or nothing.
-abbrev pub IsWritten : Option (List ℕ) → Option (List ℕ) → Histories → Status → Type 0
-IsWritten old new kept ends.Ok = Appends old new (text_of kept)
-IsWritten old new kept ends.BadWords = Keeps old new
-IsWritten old new kept (ends.BadLine line) = Keeps old new
-IsWritten old new kept ends.ReadFault = Keeps old new
-IsWritten old new kept ends.WriteFault = WritesFront old new (text_of kept)
-IsWritten old new kept (ends.Limit line) = Keeps old new
-IsWritten old new kept ends.Memory = Keeps old new
+abbrev pub IsWritten : Settings → Option (List ℕ) → Option (List ℕ) → Histories → Status → Type 0
+IsWritten settings old new kept ends.Ok = Appends old new (text_of settings kept)
+IsWritten settings old new kept ends.BadWords = Keeps old new
+IsWritten settings old new kept (ends.BadLine line) = Keeps old new
+IsWritten settings old new kept ends.ReadFault = Keeps old new
+IsWritten settings old new kept ends.WriteFault = WritesFront old new (text_of settings kept)
+IsWritten settings old new kept (ends.Limit line) = Keeps old new
+IsWritten settings old new kept ends.Memory = Keeps old new
 
 -- ---- the parts of a run
 

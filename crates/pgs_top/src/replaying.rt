@@ -59,7 +59,7 @@ fn run<K: Sink>(alloc: Global, settings: Settings, script: StepScript, sink: &mu
     ensures run { IsRun settings script result.kept result.status }
     ensures sound { OfWorld IsSound result.kept.world }
     ensures scrubbed { OfWorld AreScrubbed result.kept.world }
-    ensures written { IsWritten (K.taken sink.old) (K.taken sink.new) result.kept result.status }
+    ensures written { IsWritten settings (K.taken sink.old) (K.taken sink.new) result.kept result.status }
     ensures fault { result.status ≡ Status.WriteFault → Rose (K.faults sink.old) (K.faults sink.new) }
 {
     let Ok(kept) = keep(alloc, settings, script) else {
@@ -68,7 +68,7 @@ fn run<K: Sink>(alloc: Global, settings: Settings, script: StepScript, sink: &mu
             kept: nothing(alloc),
         };
     };
-    let Ok(text) = text(alloc, &kept) else {
+    let Ok(text) = text(alloc, settings, &kept) else {
         drop(kept);
         return Ended {
             status: Status::Memory,
@@ -99,7 +99,7 @@ pub fn replay<S: Source, K: Sink>(
     // How it ends is due for what was read,
     ensures due { Due settings (S.left source.old) result.kept result.status }
     // and what is written for what happened.
-    ensures written { IsWritten (K.taken sink.old) (K.taken sink.new) result.kept result.status }
+    ensures written { IsWritten settings (K.taken sink.old) (K.taken sink.new) result.kept result.status }
     // Of each group: every write that was answered as acknowledged stands in its log once, and each acting OSD applied it.
     ensures acknowledged { OfWorld AreAcknowledged result.kept.world }
     // The log is numbered without gaps, and no request stands in it twice.

@@ -34,7 +34,7 @@ pub fn top<S: Source, K: Sink>(
     // How it ends is due for what was read,
     ensures due { Due usual_settings (S.left source.old) result.kept result.status }
     // and what is written for what happened.
-    ensures written { IsWritten (K.taken sink.old) (K.taken sink.new) result.kept result.status }
+    ensures written { IsWritten usual_settings (K.taken sink.old) (K.taken sink.new) result.kept result.status }
     // Of each group: every write that was answered as acknowledged stands in its log once, and each acting OSD applied it.
     ensures acknowledged { OfWorld AreAcknowledged result.kept.world }
     // The log is numbered without gaps, and no request stands in it twice.

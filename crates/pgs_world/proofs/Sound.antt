@@ -56,6 +56,7 @@ of_other made members past number (dones.Release group osd answer) apart own = t
 of_other made members past number (dones.Job group kind rank moment answer) apart own = tt
 of_other made members past number (dones.Unjob group answer) apart own = tt
 of_other made members past number (dones.Pick moment answer) apart own = tt
+of_other made members past number (dones.Listed text) apart own = tt
 
 behind : (made : Made) (members : List Member) (past : List Event) (number : ℕ) (front old : List Done) → ((number ≡ made.number) → ⊥) → AllByRecursion (IsOf number) front
     → AreAcknowledged made members past old → AreAcknowledged made members past (front ++ old)
@@ -161,6 +162,8 @@ queued_on w (steps.Basic (basics.Release group osd)) s = onward_itself w s
 queued_on w (steps.Basic (basics.Interval group osds)) s = onward_itself w s
 queued_on w (steps.Settle group) s = onward_itself w s
 queued_on w (steps.Sweep group kind) s = onward_itself w s
+queued_on w (steps.ListObj group) s = onward_itself w s
+queued_on w (steps.ListSnap group) s = onward_itself w s
 
 -- ---- any step
 

@@ -39,6 +39,8 @@ abbrev pub step_group : ℕ → Step → Option ℕ
 step_group bits (steps.Basic basic) = basic_group bits basic
 step_group bits (steps.Settle group) = Some group
 step_group bits (steps.Sweep group kind) = Some group
+step_group bits (steps.ListObj group) = Some group
+step_group bits (steps.ListSnap group) = Some group
 
 -- the group of a number
 abbrev pub group_in : List GroupState → ℕ → Option GroupState

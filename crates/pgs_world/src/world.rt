@@ -119,6 +119,7 @@ fn step_group(bits: u32, step: &Step) -> Result<Option<u32>, AllocError>
     match step {
         Step::Basic { basic } => basic_group(bits, basic),
         Step::Settle { group } | Step::Sweep { group, .. } => Ok(Some(*group)),
+        Step::ListObj { group } | Step::ListSnap { group } => Ok(Some(*group)),
     }
 }
 
@@ -208,7 +209,10 @@ impl World {
     {
         match step {
             Step::Basic { basic } => self.do_job(basic),
-            Step::Settle { .. } | Step::Sweep { .. } => unreachable!(),
+            Step::Settle { .. }
+            | Step::Sweep { .. }
+            | Step::ListObj { .. }
+            | Step::ListSnap { .. } => unreachable!(),
         }
     }
 

@@ -67,6 +67,7 @@ fn push_step(alloc: Global, done: &Done, out: &mut Vec<u8>) -> Result<(), AllocE
         } => push_job(alloc, *group, *kind, *rank, *moment, out),
         Done::Unjob { group, .. } => push_group(alloc, b"unjob", *group, out),
         Done::Pick { moment, .. } => push_group(alloc, b"pick", *moment, out),
+        Done::Listed { text } => out.extend_from_slice(text.as_slice()),
     }
 }
 
@@ -98,7 +99,19 @@ fn push_answer(alloc: Global, done: &Done, out: &mut Vec<u8>) -> Result<(), Allo
         Done::Job { answer, .. } => push_queued(alloc, *answer, out),
         Done::Unjob { answer, .. } => push_dropped(*answer, out),
         Done::Pick { answer, .. } => push_picked(alloc, *answer, out),
+        Done::Listed { .. } => Ok(()),
     }
+}
+
+// Appends a colon and the words of the answer, but for a list, which has none.
+fn push_answer_if(alloc: Global, done: &Done, out: &mut Vec<u8>) -> Result<(), AllocError>
+    ensures { OnOk result (out.new.items ≡ out.old.items ++ behind (done_lines.answer_part done.now)) }
+{
+    if done.is_listed() {
+        return Ok(());
+    }
+    push_word(b":", out)?;
+    push_answer(alloc, done, out)
 }
 
 /// Appends the line of what was done. The words of an object are printed as they stand in it, but for a key that is equal
@@ -108,8 +121,7 @@ pub fn print(alloc: Global, done: &Done, out: &mut Vec<u8>) -> Result<(), AllocE
     ensures { OnOk result (out.new.items ≡ out.old.items ++ done_lines.done_line done.now) }
 {
     push_step(alloc, done, out)?;
-    push_word(b":", out)?;
-    push_answer(alloc, done, out)?;
+    push_answer_if(alloc, done, out)?;
     out.push(b'\n')?;
     Ok(())
 }

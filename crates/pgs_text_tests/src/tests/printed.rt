@@ -326,3 +326,19 @@ fn others(rt: HostRuntime) -> Result<(), Fail> {
     assert!(rt; says(alloc, done, b"damage 0 5 - - a head lose : being-read")?);
     Ok(())
 }
+
+// A list that holds nothing.
+fn listed(alloc: Global) -> Result<Done, AllocError> {
+    Ok(Done::Listed {
+        text: Bytes::from_slice(alloc, b"{}")?,
+    })
+}
+
+#[test]
+fn lists(rt: HostRuntime) -> Result<(), Fail> {
+    let alloc = rt.alloc();
+    let done = listed(alloc)?;
+    assert!(rt; done.is_listed());
+    assert!(rt; says(alloc, done, b"{}")?);
+    Ok(())
+}

@@ -22,16 +22,32 @@ pub fn run(alloc: Global, script: &[u8]) -> Result<(Status, MemSink), AllocError
     Ok((status, sink))
 }
 
-/// What is printed of a script whose chunks have these limits.
-pub fn replayed(alloc: Global, limits: Limits, script: &[u8]) -> Result<MemSink, AllocError> {
+// What is printed of a script whose chunks have these limits: all, or the lists alone.
+fn replayed_as(
+    alloc: Global,
+    limits: Limits,
+    lists: bool,
+    script: &[u8],
+) -> Result<MemSink, AllocError> {
     let mut source = source_of(alloc, script)?;
     let mut sink = sink(alloc);
     let settings = Settings {
         limits,
+        lists,
         ..Settings::usual()
     };
     replay(alloc, settings, &mut source, &mut sink);
     Ok(sink)
+}
+
+/// What is printed of a script whose chunks have these limits.
+pub fn replayed(alloc: Global, limits: Limits, script: &[u8]) -> Result<MemSink, AllocError> {
+    replayed_as(alloc, limits, false, script)
+}
+
+/// What is printed of a script where the lists alone are wanted.
+pub fn listed(alloc: Global, script: &[u8]) -> Result<MemSink, AllocError> {
+    replayed_as(alloc, Limits::usual(), true, script)
 }
 
 /// Chunks of one position, and so many preemptions.

@@ -1,4 +1,4 @@
-use crate::tests::run::running::{one_by_one, replayed};
+use crate::tests::run::running::{listed, one_by_one, replayed};
 use std::test::Fail;
 
 // Two objects in a chunk each, of which one was written again and not yet applied.
@@ -94,5 +94,26 @@ apply 0 1 : applied 5\nscan 0 1 : found - k a head\nend\n";
 fn a_scan_that_waits(rt: HostRuntime) -> Result<(), Fail> {
     let sink = replayed(rt.alloc(), one_by_one(5), WAITING)?;
     assert_eq!(rt; sink.taken(), WAITED);
+    Ok(())
+}
+
+// A byte that rotted on a replica, found and listed.
+const LISTING: &[u8] =
+    b"pool 0\nosd 0 1\nosd 1 1\ngroup 0 4 0 1\nwrite 1 1 - - a - full text:123456789\nsettle 0\n\
+damage 0 1 - - a head flip 8 1\nsweep 0 deep\nlist-obj 0\nlist-snap 0\nend\n";
+
+const LISTED: &[u8] = b"{\"epoch\":4,\"inconsistents\":[{\"errors\":[\"data_digest_mismatch\"],\
+\"object\":{\"locator\":\"\",\"name\":\"a\",\"nspace\":\"\",\"snap\":\"head\",\"version\":1},\
+\"selected_object_info\":{\"data_digest\":\"0x1cf96d7c\",\"prior_version\":\"0'0\",\"size\":9,\
+\"version\":\"4'1\",\"whiteout\":false},\"shards\":[{\"data_digest\":\"0x1cf96d7c\",\"errors\":[],\
+\"omap_digest\":\"0xb798b438\",\"osd\":0,\"primary\":true,\"size\":9},\
+{\"data_digest\":\"0xee92ee7f\",\"errors\":[\"data_digest_mismatch_info\"],\
+\"omap_digest\":\"0xb798b438\",\"osd\":1,\"primary\":false,\"size\":9}],\
+\"union_shard_errors\":[\"data_digest_mismatch_info\"]}]}\n{\"epoch\":4,\"inconsistents\":[]}\nend\n";
+
+#[test]
+fn lists_alone(rt: HostRuntime) -> Result<(), Fail> {
+    let sink = listed(rt.alloc(), LISTING)?;
+    assert_eq!(rt; sink.taken(), LISTED);
     Ok(())
 }
