@@ -110,12 +110,36 @@ def measure(numbers, script, what):
     end_by_growth(numbers, times)
 
 
-def end_by_growth(numbers, times):
-    """Prints how the time grew with so many things, and ends with status 1 where the last growth is too much."""
+def time_of_rounds(program, work, entries, rounds, runs):
+    """The least time of so many rounds of a work on maps: that of a run with them, less that of one that only makes the maps."""
+    commands = [([program, work, str(entries), str(number)], os.devnull) for number in (0, rounds)]
+    with tempfile.TemporaryDirectory() as folder:
+        made, worked = least_in_turns(commands, runs, folder)
+    if worked <= made:
+        print('bench: the rounds were lost in the noise')
+        sys.exit(2)
+    return worked - made
+
+
+def print_each(work, numbers, times, rounds):
+    """Prints the time of a work for each number of entries, and for one entry."""
+    each = [time / (entries * rounds) for time, entries in zip(times, numbers)]
+    for entries, time, one in zip(numbers, times, each):
+        print('%s, %d entries: %.3f s, %.2f us an entry, ratio to %d entries %.2f'
+              % (work, entries, time, one * 1e6, numbers[0], one / each[0]))
+
+
+def growths(numbers, times):
+    """Prints how the time grew with so many things, and gives the last growth."""
     growth = [after / before for before, after in zip(times, times[1:])]
     for at, ratio in enumerate(growth):
         print('time(%d) / time(%d): %.2f' % (numbers[at + 1], numbers[at], ratio))
-    sys.exit(1 if growth[-1] > MOST else 0)
+    return growth[-1]
+
+
+def end_by_growth(numbers, times):
+    """Prints how the time grew with so many things, and ends with status 1 where the last growth is too much."""
+    sys.exit(1 if growths(numbers, times) > MOST else 0)
 
 
 def time_added(program, name, start, added):

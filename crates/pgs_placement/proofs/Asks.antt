@@ -34,7 +34,7 @@ use Rattle.pgs_history.proofs.Fates.{fated}
 use Rattle.pgs_history.proofs.Steps.{opened_is}
 use Rattle.pgs_slots.specs.declared.holder.Holder.{Holder}
 use Rattle.pgs_shard.specs.Scans.{past_after_hand}
-use Rattle.pgs_shard.specs.declared.deposit.Deposit.{Deposit}
+use Rattle.pgs_exchange.specs.declared.scan_result.ScanResult.{ScanResult}
 use Rattle.pgs_shard.specs.declared.scan_answer.ScanAnswer.{ScanAnswer}
 use Rattle.pgs_shard.specs.declared.scan_answer.ScanAnswer.TheVariants as scans
 use Rattle.pgs_shard_history.specs.Scanning.{Scanning, scanning, is_newer, after_ask, after_drop}
@@ -218,6 +218,6 @@ scan_ask (scans.Passed id mark) past = refl
 scan_ask scans.Done past = refl
 scan_ask (scans.ListFault count) past = refl
 
-pub hand_ask : (deposit : Option Deposit) (past : List ShardEvent) → (scanning (past_after_hand deposit past)).ask ≡ (scanning past).ask
+pub hand_ask : (scanned : Option ScanResult) (past : List ShardEvent) → (scanning (past_after_hand scanned past)).ask ≡ (scanning past).ask
 hand_ask None past = refl
-hand_ask (Some deposit) past = refl
+hand_ask (Some scanned) past = refl

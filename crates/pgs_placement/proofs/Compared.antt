@@ -38,7 +38,7 @@ use Rattle.pgs_shard_history.specs.Laws.{applied_items}
 use Rattle.pgs_shard_history.specs.Scanning.{scanning}
 use Rattle.pgs_shard_history.specs.Scans.{at_place}
 use Rattle.pgs_shards.specs.Members.{Member, past_in}
-use Rattle.pgs_placement.specs.Cited.{deposit_of, IsMapOf, HasSeen, IsCited, AreCited}
+use Rattle.pgs_placement.specs.Cited.{result_of, IsMapOf, HasSeen, IsCited, AreCited}
 use Rattle.pgs_placement.specs.Compared.{IsCompared, IsOneVersion, AreCompared}
 use Rattle.pgs_placement.specs.Versions.{items_in}
 use Rattle.pgs_placement.proofs.Inside.{none_open}
@@ -106,7 +106,7 @@ taken_within made (Close number answer ∷ past) legal chunk osd map e = taken_w
 record IsGiven (members : List Member) (past : List Event) (chunk : Chunk) (osd : ℕ) (map : ScrubMap) : Type 0 where
   place : ℕ
   within : place ≤ length (past_in members osd)
-  ended : handed_in osd (scanning (at_place place (past_in members osd))) ≡ Some (deposit_of place map)
+  ended : handed_in osd (scanning (at_place place (past_in members osd))) ≡ Some (result_of place map)
   items : applied_items (at_place place (past_in members osd)) ≡ upto map.applied (log past)
   needed : map.needed ≤ map.applied
   logged : map.applied ≤ length (log past)

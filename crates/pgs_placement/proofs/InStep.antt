@@ -34,7 +34,7 @@ use Rattle.pgs_shard_history.specs.Scanning.{scanning}
 use Rattle.pgs_shard_history.specs.Stores.{applied}
 use Rattle.pgs_shard_history.specs.declared.event.Event.{Event as ShardEvent}
 use Rattle.pgs_shard_history.specs.declared.event.Event.TheVariants.{Fed, Applied, DeviceFault, ListFailed}
-use Rattle.pgs_shard.specs.declared.deposit.Deposit.{Deposit}
+use Rattle.pgs_exchange.specs.declared.scan_result.ScanResult.{ScanResult}
 use Rattle.pgs_shard.specs.declared.scan_answer.ScanAnswer.{ScanAnswer}
 use Rattle.pgs_shard.specs.declared.scan_answer.ScanAnswer.TheVariants as scans
 use Rattle.pgs_range.specs.declared.bound.Bound.{Bound}
@@ -361,9 +361,9 @@ in_scan w group osd h =
     (λ m same one. let as_much = scan_fed (scan_answer w.stride m) m.past in
     like_step w.past osd m.past (after_answer (scan_answer w.stride m) m.past) as_much.0 as_much.1 (scan_ask (scan_answer w.stride m) m.past) one)
 
-hand_fed : (deposit : Option Deposit) (past : List ShardEvent) → (fed (past_after_hand deposit past) ≡ fed past) × (applied (past_after_hand deposit past) ≡ applied past)
+hand_fed : (scanned : Option ScanResult) (past : List ShardEvent) → (fed (past_after_hand scanned past) ≡ fed past) × (applied (past_after_hand scanned past) ≡ applied past)
 hand_fed None past = (refl, refl)
-hand_fed (Some deposit) past = (refl, refl)
+hand_fed (Some scanned) past = (refl, refl)
 
 pub in_hand : (w : PlacementState) (osd : ℕ) (done : List Done) → AreInStep w → AreInStep (record w { members = with_handed osd w.members; done = done })
 in_hand w osd done h =

@@ -5,8 +5,8 @@ use Rattle.pgs_medium.specs.declared.item.Item.{Item}
 use Rattle.pgs_chunk.specs.declared.ask.Ask.{Ask}
 use Rattle.pgs_copy.specs.declared.obj_copy.ObjCopy.{ObjCopy}
 use Rattle.pgs_shard.specs.Scans.{handed_at, handed_by, handed_in}
-use Rattle.pgs_shard.specs.declared.deposit.Deposit.{Deposit}
-use Rattle.pgs_shard.specs.declared.deposit.Handed.TheVariants as handed
+use Rattle.pgs_exchange.specs.declared.scan_result.ScanResult.{ScanResult}
+use Rattle.pgs_exchange.specs.declared.scan_result.Found.TheVariants as results
 use Rattle.pgs_map.specs.declared.entry.Entry.{Entry}
 use Rattle.pgs_map.specs.declared.scrub_map.ScrubMap.{ScrubMap}
 use Rattle.pgs_shard_history.specs.Legal.{IsLegal, IsGoingOn}
@@ -19,7 +19,7 @@ use Rattle.pgs_shard_history.specs.declared.event.Event.TheVariants.{Fed, Applie
 use Rattle.pgs_shard_history.specs.declared.phase.Phase.{Phase}
 use Rattle.pgs_shard_history.specs.declared.phase.Phase.TheVariants.{Waiting, Between, Reading, Mapped, Failed, Over}
 use Rattle.pgs_shard_history.specs.declared.scan_event.ScanEvent.TheVariants.{Found, More, Passed, Done, ListFault}
-use Rattle.pgs_placement.specs.Cited.{deposit_of, fault_of}
+use Rattle.pgs_placement.specs.Cited.{result_of, fault_of}
 
 -- ---- a history with one event more
 
@@ -115,12 +115,12 @@ failed_since stride past place count faults legal e = ended_since stride past pl
 -- ---- what is handed
 
 -- a map that is handed is of the OSD and of the ask of a scan that ended with it at the place that is handed
-pub record IsMapFrom (osd : ℕ) (ask : Option Ask) (phase : Phase) (entries : List Entry) (deposit : Deposit) (map : ScrubMap) : Type 0 where
+pub record IsMapFrom (osd : ℕ) (ask : Option Ask) (phase : Phase) (entries : List Entry) (scanned : ScanResult) (map : ScrubMap) : Type 0 where
   pub count : ℕ
   pub asked : Ask
   pub of : ask ≡ Some asked
-  pub phase_is : phase ≡ Mapped deposit.place count
-  pub whole : deposit ≡ deposit_of deposit.place map
+  pub phase_is : phase ≡ Mapped scanned.place count
+  pub whole : scanned ≡ result_of scanned.place map
   pub osd_is : map.osd ≡ osd
   pub chunk_is : map.chunk ≡ asked.chunk
   pub serial_is : map.serial ≡ asked.serial
@@ -129,28 +129,28 @@ pub record IsMapFrom (osd : ℕ) (ask : Option Ask) (phase : Phase) (entries : L
   pub applied_is : map.applied ≡ count
   pub entries_is : map.entries ≡ entries
 
-same_map : (a b : ScrubMap) → handed.Map a ≡ handed.Map b → a ≡ b
+same_map : (a b : ScrubMap) → results.Map a ≡ results.Map b → a ≡ b
 same_map a b e = cc
 
-map_at : (osd : ℕ) (ask : Ask) (phase : Phase) (entries : List Entry) (deposit : Deposit) (map : ScrubMap) → handed_at osd phase ask entries ≡ Some deposit → deposit.found ≡ handed.Map map
-    → IsMapFrom osd (Some ask) phase entries deposit map
-map_at osd ask Waiting entries deposit map e f = absurd cc
-map_at osd ask Between entries deposit map e f = absurd cc
-map_at osd ask Reading entries deposit map e f = absurd cc
-map_at osd ask (Mapped place count) entries deposit map e f = mapped deposit map (sym (some_same _ deposit e)) f
+map_at : (osd : ℕ) (ask : Ask) (phase : Phase) (entries : List Entry) (scanned : ScanResult) (map : ScrubMap) → handed_at osd phase ask entries ≡ Some scanned → scanned.found ≡ results.Map map
+    → IsMapFrom osd (Some ask) phase entries scanned map
+map_at osd ask Waiting entries scanned map e f = absurd cc
+map_at osd ask Between entries scanned map e f = absurd cc
+map_at osd ask Reading entries scanned map e f = absurd cc
+map_at osd ask (Mapped place count) entries scanned map e f = mapped scanned map (sym (some_same _ scanned e)) f
   where
-    mapped : (deposit : Deposit) (map : ScrubMap) → deposit ≡ record { osd = osd; serial = ask.serial; chunk = ask.chunk; applied = count; place = place; found = handed.Map (record { osd = osd; serial = ask.serial; chunk = ask.chunk; needed = ask.needed; applied = count; range = ask.range; entries = entries }) }
-        → deposit.found ≡ handed.Map map → IsMapFrom osd (Some ask) (Mapped place count) entries deposit map
-    mapped deposit map e f =
+    mapped : (scanned : ScanResult) (map : ScrubMap) → scanned ≡ record { osd = osd; serial = ask.serial; chunk = ask.chunk; applied = count; place = place; found = results.Map (record { osd = osd; serial = ask.serial; chunk = ask.chunk; needed = ask.needed; applied = count; range = ask.range; entries = entries }) }
+        → scanned.found ≡ results.Map map → IsMapFrom osd (Some ask) (Mapped place count) entries scanned map
+    mapped scanned map e f =
         let made : ScrubMap = record { osd = osd; serial = ask.serial; chunk = ask.chunk; needed = ask.needed; applied = count; range = ask.range; entries = entries } in
         let is : made ≡ map = same_map made map (ap (λ d. d.found) (sym e) ∙ f) in
-        let where_is : deposit.place ≡ place = ap (λ d. d.place) e in
+        let where_is : scanned.place ≡ place = ap (λ d. d.place) e in
         record {
           count = count;
           asked = ask;
           of = refl;
           phase_is = ap (λ n. Mapped n count) (sym where_is);
-          whole = e ∙ ap (λ m. deposit_of place m) is ∙ ap (λ n. deposit_of n map) (sym where_is);
+          whole = e ∙ ap (λ m. result_of place m) is ∙ ap (λ n. result_of n map) (sym where_is);
           osd_is = sym (ap (λ m. m.osd) is);
           chunk_is = sym (ap (λ m. m.chunk) is);
           serial_is = sym (ap (λ m. m.serial) is);
@@ -159,65 +159,65 @@ map_at osd ask (Mapped place count) entries deposit map e f = mapped deposit map
           applied_is = sym (ap (λ m. m.applied) is);
           entries_is = sym (ap (λ m. m.entries) is);
         }
-map_at osd ask (Failed place count faults) entries deposit map e f = absurd (no_map (ap (λ d. d.found) (some_same _ deposit e) ∙ f))
+map_at osd ask (Failed place count faults) entries scanned map e f = absurd (no_map (ap (λ d. d.found) (some_same _ scanned e) ∙ f))
   where
-    no_map : handed.ListFault faults ≡ handed.Map map → ⊥
+    no_map : results.ListFault faults ≡ results.Map map → ⊥
     no_map same = cc
-map_at osd ask Over entries deposit map e f = absurd cc
+map_at osd ask Over entries scanned map e f = absurd cc
 
-pub map_of_scan : (osd : ℕ) (ask : Option Ask) (s : Scanning) (deposit : Deposit) (map : ScrubMap) → s.ask ≡ ask → handed_in osd s ≡ Some deposit → deposit.found ≡ handed.Map map
-    → IsMapFrom osd ask s.phase s.entries deposit map
-map_of_scan osd ask s deposit map is e f = by_ask s.ask refl is e
+pub map_of_scan : (osd : ℕ) (ask : Option Ask) (s : Scanning) (scanned : ScanResult) (map : ScrubMap) → s.ask ≡ ask → handed_in osd s ≡ Some scanned → scanned.found ≡ results.Map map
+    → IsMapFrom osd ask s.phase s.entries scanned map
+map_of_scan osd ask s scanned map is e f = by_ask s.ask refl is e
   where
-    by_ask : (own : Option Ask) → own ≡ s.ask → own ≡ ask → handed_by osd own s ≡ Some deposit → IsMapFrom osd ask s.phase s.entries deposit map
+    by_ask : (own : Option Ask) → own ≡ s.ask → own ≡ ask → handed_by osd own s ≡ Some scanned → IsMapFrom osd ask s.phase s.entries scanned map
     by_ask None here is e = absurd cc
-    by_ask (Some a) here is e = subst (λ o. IsMapFrom osd o s.phase s.entries deposit map) is (map_at osd a s.phase s.entries deposit map e f)
+    by_ask (Some a) here is e = subst (λ o. IsMapFrom osd o s.phase s.entries scanned map) is (map_at osd a s.phase s.entries scanned map e f)
 
 -- a fault that is handed is of the OSD and of the ask of a scan that ended with it at the place that is handed
-pub record IsFaultFrom (osd : ℕ) (ask : Option Ask) (phase : Phase) (deposit : Deposit) (faults : ℕ) : Type 0 where
+pub record IsFaultFrom (osd : ℕ) (ask : Option Ask) (phase : Phase) (scanned : ScanResult) (faults : ℕ) : Type 0 where
   pub count : ℕ
   pub asked : Ask
   pub of : ask ≡ Some asked
-  pub phase_is : phase ≡ Failed deposit.place count faults
-  pub whole : deposit ≡ fault_of osd deposit.serial deposit.chunk faults count deposit.place
-  pub chunk_is : deposit.chunk ≡ asked.chunk
-  pub serial_is : deposit.serial ≡ asked.serial
+  pub phase_is : phase ≡ Failed scanned.place count faults
+  pub whole : scanned ≡ fault_of osd scanned.serial scanned.chunk faults count scanned.place
+  pub chunk_is : scanned.chunk ≡ asked.chunk
+  pub serial_is : scanned.serial ≡ asked.serial
 
-fault_at : (osd : ℕ) (ask : Ask) (phase : Phase) (entries : List Entry) (deposit : Deposit) (faults : ℕ) → handed_at osd phase ask entries ≡ Some deposit → deposit.found ≡ handed.ListFault faults
-    → IsFaultFrom osd (Some ask) phase deposit faults
-fault_at osd ask Waiting entries deposit faults e f = absurd cc
-fault_at osd ask Between entries deposit faults e f = absurd cc
-fault_at osd ask Reading entries deposit faults e f = absurd cc
-fault_at osd ask (Mapped place count) entries deposit faults e f = absurd (no_fault (ap (λ d. d.found) (some_same _ deposit e) ∙ f))
+fault_at : (osd : ℕ) (ask : Ask) (phase : Phase) (entries : List Entry) (scanned : ScanResult) (faults : ℕ) → handed_at osd phase ask entries ≡ Some scanned → scanned.found ≡ results.ListFault faults
+    → IsFaultFrom osd (Some ask) phase scanned faults
+fault_at osd ask Waiting entries scanned faults e f = absurd cc
+fault_at osd ask Between entries scanned faults e f = absurd cc
+fault_at osd ask Reading entries scanned faults e f = absurd cc
+fault_at osd ask (Mapped place count) entries scanned faults e f = absurd (no_fault (ap (λ d. d.found) (some_same _ scanned e) ∙ f))
   where
-    no_fault : handed.Map (record { osd = osd; serial = ask.serial; chunk = ask.chunk; needed = ask.needed; applied = count; range = ask.range; entries = entries }) ≡ handed.ListFault faults → ⊥
+    no_fault : results.Map (record { osd = osd; serial = ask.serial; chunk = ask.chunk; needed = ask.needed; applied = count; range = ask.range; entries = entries }) ≡ results.ListFault faults → ⊥
     no_fault same = cc
-fault_at osd ask (Failed place count own) entries deposit faults e f = told deposit (sym (some_same _ deposit e)) f
+fault_at osd ask (Failed place count own) entries scanned faults e f = told scanned (sym (some_same _ scanned e)) f
   where
-    same_faults : handed.ListFault own ≡ handed.ListFault faults → own ≡ faults
+    same_faults : results.ListFault own ≡ results.ListFault faults → own ≡ faults
     same_faults e = cc
 
-    told : (deposit : Deposit) → deposit ≡ fault_of osd ask.serial ask.chunk own count place → deposit.found ≡ handed.ListFault faults → IsFaultFrom osd (Some ask) (Failed place count own) deposit faults
-    told deposit e f =
+    told : (scanned : ScanResult) → scanned ≡ fault_of osd ask.serial ask.chunk own count place → scanned.found ≡ results.ListFault faults → IsFaultFrom osd (Some ask) (Failed place count own) scanned faults
+    told scanned e f =
         let is : own ≡ faults = same_faults (ap (λ d. d.found) (sym e) ∙ f) in
-        let place_is : deposit.place ≡ place = ap (λ d. d.place) e in
-        let chunk_is : deposit.chunk ≡ ask.chunk = ap (λ d. d.chunk) e in
-        let serial_is : deposit.serial ≡ ask.serial = ap (λ d. d.serial) e in
+        let place_is : scanned.place ≡ place = ap (λ d. d.place) e in
+        let chunk_is : scanned.chunk ≡ ask.chunk = ap (λ d. d.chunk) e in
+        let serial_is : scanned.serial ≡ ask.serial = ap (λ d. d.serial) e in
         record {
           count = count;
           asked = ask;
           of = refl;
-          phase_is = ap (λ n. Failed n count own) (sym place_is) ∙ ap (λ n. Failed deposit.place count n) is;
+          phase_is = ap (λ n. Failed n count own) (sym place_is) ∙ ap (λ n. Failed scanned.place count n) is;
           whole = e ∙ (λ i. fault_of osd (sym serial_is i) (sym chunk_is i) (is i) count (sym place_is i));
           chunk_is = chunk_is;
           serial_is = serial_is;
         }
-fault_at osd ask Over entries deposit faults e f = absurd cc
+fault_at osd ask Over entries scanned faults e f = absurd cc
 
-pub fault_of_scan : (osd : ℕ) (ask : Option Ask) (s : Scanning) (deposit : Deposit) (faults : ℕ) → s.ask ≡ ask → handed_in osd s ≡ Some deposit → deposit.found ≡ handed.ListFault faults
-    → IsFaultFrom osd ask s.phase deposit faults
-fault_of_scan osd ask s deposit faults is e f = by_ask s.ask refl is e
+pub fault_of_scan : (osd : ℕ) (ask : Option Ask) (s : Scanning) (scanned : ScanResult) (faults : ℕ) → s.ask ≡ ask → handed_in osd s ≡ Some scanned → scanned.found ≡ results.ListFault faults
+    → IsFaultFrom osd ask s.phase scanned faults
+fault_of_scan osd ask s scanned faults is e f = by_ask s.ask refl is e
   where
-    by_ask : (own : Option Ask) → own ≡ s.ask → own ≡ ask → handed_by osd own s ≡ Some deposit → IsFaultFrom osd ask s.phase deposit faults
+    by_ask : (own : Option Ask) → own ≡ s.ask → own ≡ ask → handed_by osd own s ≡ Some scanned → IsFaultFrom osd ask s.phase scanned faults
     by_ask None here is e = absurd cc
-    by_ask (Some a) here is e = subst (λ o. IsFaultFrom osd o s.phase deposit faults) is (fault_at osd a s.phase s.entries deposit faults e f)
+    by_ask (Some a) here is e = subst (λ o. IsFaultFrom osd o s.phase scanned faults) is (fault_at osd a s.phase s.entries scanned faults e f)

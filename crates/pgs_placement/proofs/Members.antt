@@ -12,7 +12,7 @@ use Rattle.pgs_chunk.proofs.Listings.{is_listing, front_ascends}
 use Rattle.pgs_chunk.proofs.Members.{none_ascend}
 use Rattle.pgs_medium.specs.declared.call_kind.CallKind.TheVariants as kinds
 use Rattle.pgs_shard.specs.Scans.{handed_in, past_after_hand}
-use Rattle.pgs_shard.specs.declared.deposit.Deposit.{Deposit}
+use Rattle.pgs_exchange.specs.declared.scan_result.ScanResult.{ScanResult}
 use Rattle.pgs_shard.specs.declared.scan_answer.ScanAnswer.{ScanAnswer}
 use Rattle.pgs_shard.specs.declared.scan_answer.ScanAnswer.TheVariants as scans
 use Rattle.pgs_shard_history.specs.Legal.{IsLegal}
@@ -226,13 +226,13 @@ scan_applied (scans.Passed id mark) past = refl
 scan_applied scans.Done past = refl
 scan_applied (scans.ListFault count) past = refl
 
-pub hand_goes_on : (deposit : Option Deposit) (past : List Event) → GoesOn past (past_after_hand deposit past)
+pub hand_goes_on : (scanned : Option ScanResult) (past : List Event) → GoesOn past (past_after_hand scanned past)
 hand_goes_on None past = goes_nowhere past
-hand_goes_on (Some deposit) past = goes_one Handed past
+hand_goes_on (Some scanned) past = goes_one Handed past
 
-pub hand_applied : (deposit : Option Deposit) (past : List Event) → applied (past_after_hand deposit past) ≡ applied past
+pub hand_applied : (scanned : Option ScanResult) (past : List Event) → applied (past_after_hand scanned past) ≡ applied past
 hand_applied None past = refl
-hand_applied (Some deposit) past = refl
+hand_applied (Some scanned) past = refl
 
 -- what an OSD hands is told by its history
 pub hand_of : (members : List Member) (osd : ℕ) → hand_in members osd ≡ handed_in osd (scanning (past_in members osd))

@@ -19,9 +19,9 @@ use Rattle.pgs_lines.specs.declared.basic.Basic.TheVariants as basics
 use Rattle.pgs_lines.specs.declared.kind.Kind.{Kind}
 use Rattle.pgs_done.specs.declared.done.Done.{Done}
 use Rattle.pgs_done.specs.declared.done.Done.TheVariants as dones
-use Rattle.pgs_shard.specs.declared.deposit.Deposit.{Deposit}
-use Rattle.pgs_shard.specs.declared.deposit.Handed.{Handed}
-use Rattle.pgs_shard.specs.declared.deposit.Handed.TheVariants as handed
+use Rattle.pgs_exchange.specs.declared.scan_result.ScanResult.{ScanResult}
+use Rattle.pgs_exchange.specs.declared.scan_result.Found.{Found}
+use Rattle.pgs_exchange.specs.declared.scan_result.Found.TheVariants as results
 use Rattle.pgs_shards.specs.Members.{Member}
 use Rattle.pgs_shards.specs.Scans.{hand_in}
 use Rattle.pgs_shards.specs.declared.list_answer.ListAnswer.{ListAnswer}
@@ -190,13 +190,13 @@ opening_from (Some serial) w group =
 pub on_open : (w : PlacementState) (group : ℕ) → IsSound w → IsOn w (all_admitted (after_opening w group))
 on_open w group s = on_admitted w (after_opening w group) (steady_open w group s) (opening_from (present w.past) w group)
 
-found_from : (found : Handed) (deposit : Deposit) (w : PlacementState) (group osd : ℕ) → IsFrom w (found_taken found deposit w group osd)
-found_from (handed.Map map) deposit w group osd = from_one w _ _ w.slots (dones.Take group osd _) (λ number is. tt)
-found_from (handed.ListFault count) deposit w group osd = from_one w _ _ w.slots (dones.Take group osd _) (λ number is. tt)
+found_from : (found : Found) (scanned : ScanResult) (w : PlacementState) (group osd : ℕ) → IsFrom w (found_taken found scanned w group osd)
+found_from (results.Map map) scanned w group osd = from_one w _ _ w.slots (dones.Take group osd _) (λ number is. tt)
+found_from (results.ListFault count) scanned w group osd = from_one w _ _ w.slots (dones.Take group osd _) (λ number is. tt)
 
-handed_from : (deposit : Option Deposit) (w : PlacementState) (group osd : ℕ) → IsFrom w (handed_taken deposit w group osd)
+handed_from : (scanned : Option ScanResult) (w : PlacementState) (group osd : ℕ) → IsFrom w (handed_taken scanned w group osd)
 handed_from None w group osd = from_one w w.past w.members w.slots (dones.Take group osd _) (λ number is. tt)
-handed_from (Some deposit) w group osd = found_from deposit.found deposit w group osd
+handed_from (Some scanned) w group osd = found_from scanned.found scanned w group osd
 
 pub on_take : (w : PlacementState) (group osd : ℕ) → IsSound w → is_member w.made osd ≡ true → IsOn w (all_admitted (after_taking w group osd))
 on_take w group osd s member = on_admitted w (after_taking w group osd) (steady_take w group osd s member) (handed_from (hand_in w.members osd) w group osd)

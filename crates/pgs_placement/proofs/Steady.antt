@@ -39,9 +39,9 @@ use Rattle.pgs_history.specs.declared.event.Event.TheVariants.{Admit, Begin, Ope
 use Rattle.pgs_history.specs.declared.made.Made.{Made}
 use Rattle.pgs_history.proofs.Legal.{legal_submit, legal_collect, legal_pull, legal_tell, legal_close}
 use Rattle.pgs_history.proofs.Ids.{numbered, distinct}
-use Rattle.pgs_shard.specs.declared.deposit.Deposit.{Deposit}
-use Rattle.pgs_shard.specs.declared.deposit.Handed.{Handed}
-use Rattle.pgs_shard.specs.declared.deposit.Handed.TheVariants as handed
+use Rattle.pgs_exchange.specs.declared.scan_result.ScanResult.{ScanResult}
+use Rattle.pgs_exchange.specs.declared.scan_result.Found.{Found}
+use Rattle.pgs_exchange.specs.declared.scan_result.Found.TheVariants as results
 use Rattle.pgs_shard_history.specs.Stores.{applied}
 use Rattle.pgs_shard_history.specs.declared.event.Event.{Event as ShardEvent}
 use Rattle.pgs_shards.specs.Members.{past_in}
@@ -301,32 +301,32 @@ steady_hand w osd h = record {
 take_quiet : (past : List Event) (place : ℕ) (map : ScrubMap) → AreQuiet past (after_take past place map)
 take_quiet past place map = record { pulls = λ q. refl; tells = λ q. refl; items = refl; requests = refl; asks = same_asks past (after_take past place map) refl refl refl refl }
 
-map_steady : (w : PlacementState) (group osd : ℕ) (deposit : Deposit) (map : ScrubMap) → IsSound w → is_member w.made osd ≡ true → hand_in w.members osd ≡ Some deposit → deposit.found ≡ handed.Map map
-    → IsSteady (found_taken (handed.Map map) deposit w group osd)
-map_steady w group osd deposit map s member e f =
+map_steady : (w : PlacementState) (group osd : ℕ) (scanned : ScanResult) (map : ScrubMap) → IsSound w → is_member w.made osd ≡ true → hand_in w.members osd ≡ Some scanned → scanned.found ≡ results.Map map
+    → IsSteady (found_taken (results.Map map) scanned w group osd)
+map_steady w group osd scanned map s member e f =
     let h = s.steady in
     let between : PlacementState = record w { members = with_handed osd w.members } in
-    let legal : IsLegal w.made (after_take w.past deposit.place map) = (s.idle, (refl, take_of w osd deposit map s member e f), h.in_step.legal) in
-    let cited = take_cited w.stride w.members w.past osd deposit map (legal_in w.stride w.members osd h.in_step.whole) (h.in_step.each osd member) e f in
-    steady_quiet between (after_take w.past deposit.place map) (dones.Take group osd _) legal (take_quiet w.past deposit.place map) refl (steady_hand w osd h)
-    (is_cited_more w.members (with_handed osd w.members) w.past deposit.place map (goes_handed w.members osd map.osd) cited, cited_hand w.members osd w.past h.cited) tt
+    let legal : IsLegal w.made (after_take w.past scanned.place map) = (s.idle, (refl, take_of w osd scanned map s member e f), h.in_step.legal) in
+    let cited = take_cited w.stride w.members w.past osd scanned map (legal_in w.stride w.members osd h.in_step.whole) (h.in_step.each osd member) e f in
+    steady_quiet between (after_take w.past scanned.place map) (dones.Take group osd _) legal (take_quiet w.past scanned.place map) refl (steady_hand w osd h)
+    (is_cited_more w.members (with_handed osd w.members) w.past scanned.place map (goes_handed w.members osd map.osd) cited, cited_hand w.members osd w.past h.cited) tt
 
-list_fault_steady : (w : PlacementState) (group osd : ℕ) (deposit : Deposit) (count : ℕ) → IsSound w → is_member w.made osd ≡ true → hand_in w.members osd ≡ Some deposit → deposit.found ≡ handed.ListFault count
-    → IsSteady (found_taken (handed.ListFault count) deposit w group osd)
-list_fault_steady w group osd deposit count s member e f =
+list_fault_steady : (w : PlacementState) (group osd : ℕ) (scanned : ScanResult) (count : ℕ) → IsSound w → is_member w.made osd ≡ true → hand_in w.members osd ≡ Some scanned → scanned.found ≡ results.ListFault count
+    → IsSteady (found_taken (results.ListFault count) scanned w group osd)
+list_fault_steady w group osd scanned count s member e f =
     let h = s.steady in
-    let told = fault_cited w.stride w.members w.past osd deposit count (legal_in w.stride w.members osd h.in_step.whole) (h.in_step.each osd member) e f in
-    fault_steady (record w { members = with_handed osd w.members }) deposit.serial deposit.chunk osd count (dones.Take group osd _) (steady_hand w osd h) s.idle told.1
-    (fault_cited_more w.members (with_handed osd w.members) deposit.serial deposit.chunk osd count (goes_handed w.members osd osd) told.0) tt
+    let told = fault_cited w.stride w.members w.past osd scanned count (legal_in w.stride w.members osd h.in_step.whole) (h.in_step.each osd member) e f in
+    fault_steady (record w { members = with_handed osd w.members }) scanned.serial scanned.chunk osd count (dones.Take group osd _) (steady_hand w osd h) s.idle told.1
+    (fault_cited_more w.members (with_handed osd w.members) scanned.serial scanned.chunk osd count (goes_handed w.members osd osd) told.0) tt
 
-found_steady : (w : PlacementState) (group osd : ℕ) (deposit : Deposit) (found : Handed) → IsSound w → is_member w.made osd ≡ true → hand_in w.members osd ≡ Some deposit → deposit.found ≡ found
-    → IsSteady (found_taken found deposit w group osd)
-found_steady w group osd deposit (handed.Map map) s member e f = map_steady w group osd deposit map s member e f
-found_steady w group osd deposit (handed.ListFault count) s member e f = list_fault_steady w group osd deposit count s member e f
+found_steady : (w : PlacementState) (group osd : ℕ) (scanned : ScanResult) (found : Found) → IsSound w → is_member w.made osd ≡ true → hand_in w.members osd ≡ Some scanned → scanned.found ≡ found
+    → IsSteady (found_taken found scanned w group osd)
+found_steady w group osd scanned (results.Map map) s member e f = map_steady w group osd scanned map s member e f
+found_steady w group osd scanned (results.ListFault count) s member e f = list_fault_steady w group osd scanned count s member e f
 
-take_steady : (w : PlacementState) (group osd : ℕ) (deposit : Option Deposit) → IsSound w → is_member w.made osd ≡ true → hand_in w.members osd ≡ deposit → IsSteady (handed_taken deposit w group osd)
+take_steady : (w : PlacementState) (group osd : ℕ) (scanned : Option ScanResult) → IsSound w → is_member w.made osd ≡ true → hand_in w.members osd ≡ scanned → IsSteady (handed_taken scanned w group osd)
 take_steady w group osd None s member e = steady_done w (dones.Take group osd NotDone) s.steady tt
-take_steady w group osd (Some deposit) s member e = found_steady w group osd deposit deposit.found s member e refl
+take_steady w group osd (Some scanned) s member e = found_steady w group osd scanned scanned.found s member e refl
 
 pub steady_take : (w : PlacementState) (group osd : ℕ) → IsSound w → is_member w.made osd ≡ true → IsSteady (after_taking w group osd)
 steady_take w group osd s member = take_steady w group osd (hand_in w.members osd) s member refl

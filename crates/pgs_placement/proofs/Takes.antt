@@ -12,8 +12,8 @@ use Rattle.pgs_history.specs.Scrubs.{IsBegun, open_chunk, last_kind, is_deep}
 use Rattle.pgs_history.specs.declared.chunk.Chunk.{Chunk}
 use Rattle.pgs_history.specs.declared.event.Event.{Event}
 use Rattle.pgs_shard.specs.Scans.{handed_in, past_after_hand}
-use Rattle.pgs_shard.specs.declared.deposit.Deposit.{Deposit}
-use Rattle.pgs_shard.specs.declared.deposit.Handed.TheVariants as handed
+use Rattle.pgs_exchange.specs.declared.scan_result.ScanResult.{ScanResult}
+use Rattle.pgs_exchange.specs.declared.scan_result.Found.TheVariants as results
 use Rattle.pgs_store.specs.Stores.{Stored}
 use Rattle.pgs_shard_history.specs.Laws.{applied_items}
 use Rattle.pgs_shard_history.specs.Scanning.{Scanning, scanning}
@@ -31,7 +31,7 @@ use Rattle.pgs_done.specs.declared.take_answer.TakeAnswer.TheVariants.{NotDone}
 use Rattle.pgs_placement.specs.Scrubs.{handed_taken, after_taking}
 use Rattle.pgs_seen.specs.Seen.{seen_entry, IsSeen}
 use Rattle.pgs_seen.proofs.Seen.{seen}
-use Rattle.pgs_placement.specs.Cited.{deposit_of, IsMapOf, HasSeen, IsCited, IsScanFault, IsFaultCited}
+use Rattle.pgs_placement.specs.Cited.{result_of, IsMapOf, HasSeen, IsCited, IsScanFault, IsFaultCited}
 use Rattle.pgs_placement.specs.Counts.{is_member, IsOfOpened, IsAsked, IsInStep}
 use Rattle.pgs_placement.specs.Sound.{IsSound}
 use Rattle.pgs_placement.specs.State.{PlacementState}
@@ -64,20 +64,20 @@ seen_now past asked ask map entries at is h chunk_is range_is entries_is seen_at
     from o = λ id inside.
         ap (entry_at id) entries_is ∙ seen_at id (ap (λ r. in_range r id.family) (sym range_is) ∙ inside) ∙ ap (λ d. seen_entry d id at) (o.deep chunk now (number ∙ chunk_is))
 
-map_of_past : (osd : ℕ) (shard : List ShardEvent) (deposit : Deposit) (map : ScrubMap) → handed_in osd (scanning shard) ≡ Some deposit → deposit.found ≡ handed.Map map
-    → IsMapFrom osd (scanning shard).ask (scanning shard).phase (scanning shard).entries deposit map
-map_of_past osd shard deposit map e f = map_of_scan osd (scanning shard).ask (scanning shard) deposit map refl e f
+map_of_past : (osd : ℕ) (shard : List ShardEvent) (scanned : ScanResult) (map : ScrubMap) → handed_in osd (scanning shard) ≡ Some scanned → scanned.found ≡ results.Map map
+    → IsMapFrom osd (scanning shard).ask (scanning shard).phase (scanning shard).entries scanned map
+map_of_past osd shard scanned map e f = map_of_scan osd (scanning shard).ask (scanning shard) scanned map refl e f
 
-pub take_of : (w : PlacementState) (osd : ℕ) (deposit : Deposit) (map : ScrubMap) → IsSound w → is_member w.made osd ≡ true → hand_in w.members osd ≡ Some deposit → deposit.found ≡ handed.Map map
+pub take_of : (w : PlacementState) (osd : ℕ) (scanned : ScanResult) (map : ScrubMap) → IsSound w → is_member w.made osd ≡ true → hand_in w.members osd ≡ Some scanned → scanned.found ≡ results.Map map
     → IsOfChunk w.past map
-take_of w osd deposit map s member e f =
-    let m = map_of_past osd (past_in w.members osd) deposit map (sym (hand_of w.members osd) ∙ e) f in
+take_of w osd scanned map s member e f =
+    let m = map_of_past osd (past_in w.members osd) scanned map (sym (hand_of w.members osd) ∙ e) f in
     of_opened w.past (scanning (past_in w.members osd)).ask m.asked map m.of (s.steady.in_step.each osd member).asked m.chunk_is m.range_is
 
 -- that of the call
-pub of_chunk : (w : PlacementState) (osd : ℕ) (deposit : Deposit) (map : ScrubMap) → IsSound w → is_member w.made osd ≡ true → Some deposit ≡ hand_in w.members osd → handed.Map map ≡ deposit.found
+pub of_chunk : (w : PlacementState) (osd : ℕ) (scanned : ScanResult) (map : ScrubMap) → IsSound w → is_member w.made osd ≡ true → Some scanned ≡ hand_in w.members osd → results.Map map ≡ scanned.found
     → IsOfChunk w.past map
-of_chunk w osd deposit map s member e f = take_of w osd deposit map s member (sym e) (sym f)
+of_chunk w osd scanned map s member e f = take_of w osd scanned map s member (sym e) (sym f)
 
 -- a scan that ended with a map had applied what its ask needs
 needed_at : (stride : ℕ) (ask : Ask) (phase : Phase) (s : Scanning) (place count now : ℕ) (stored : Stored) → phase ≡ Mapped place count → IsAt stride phase ask s now stored → ask.needed ≤ count
@@ -92,26 +92,26 @@ needed_of stride asked ask s place count now stored is mapped h =
     needed_at stride ask s.phase s place count now stored mapped (subst (λ a. IsSoundScan stride a s now stored) is h)
 
 -- the map is cited at its place
-pub take_cited : (stride : ℕ) (members : List Member) (past : List Event) (osd : ℕ) (deposit : Deposit) (map : ScrubMap) → IsLegalShard stride (past_in members osd) → IsInStep past osd (past_in members osd)
-    → hand_in members osd ≡ Some deposit → deposit.found ≡ handed.Map map → IsCited members past deposit.place map
-take_cited stride members past osd deposit map legal h e f =
+pub take_cited : (stride : ℕ) (members : List Member) (past : List Event) (osd : ℕ) (scanned : ScanResult) (map : ScrubMap) → IsLegalShard stride (past_in members osd) → IsInStep past osd (past_in members osd)
+    → hand_in members osd ≡ Some scanned → scanned.found ≡ results.Map map → IsCited members past scanned.place map
+take_cited stride members past osd scanned map legal h e f =
     let shard : List ShardEvent = past_in members osd in
-    let told : handed_in osd (scanning shard) ≡ Some deposit = sym (hand_of members osd) ∙ e in
-    let m = map_of_past osd shard deposit map told f in
-    let since = mapped_since stride shard deposit.place m.count legal m.phase_is in
+    let told : handed_in osd (scanning shard) ≡ Some scanned = sym (hand_of members osd) ∙ e in
+    let m = map_of_past osd shard scanned map told f in
+    let since = mapped_since stride shard scanned.place m.count legal m.phase_is in
     let enough : m.asked.needed ≤ m.count =
-    needed_of stride (scanning shard).ask m.asked (scanning shard) deposit.place m.count (applied shard) (stored_by shard) m.of m.phase_is (sound stride shard legal) in
+    needed_of stride (scanning shard).ask m.asked (scanning shard) scanned.place m.count (applied shard) (stored_by shard) m.of m.phase_is (sound stride shard legal) in
     let needs = m.needed_is in
     let counts = m.applied_is in
     let then = since.applied_is in
-    let less : applied (at_place deposit.place shard) ≤ applied shard = applied_at stride shard deposit.place legal in
+    let less : applied (at_place scanned.place shard) ≤ applied shard = applied_at stride shard scanned.place legal in
     let pulls = h.applied_pulled in
     let has = h.pulled_log in
-    let items : applied_items (at_place deposit.place shard) ≡ upto map.applied (log past) =
-    items_at stride past osd shard deposit.place legal h ∙ ap (λ n. upto n (log past)) (since.applied_is ∙ sym m.applied_is) in
-    subst (λ q. (deposit.place ≤ length (past_in members q)) → (handed_in q (scanning (at_place deposit.place (past_in members q))) ≡ Some (deposit_of deposit.place map))
-    → (applied_items (at_place deposit.place (past_in members q)) ≡ upto map.applied (log past))
-    → ((chunk : Chunk) → open_chunk past ≡ Some chunk → chunk.number ≡ map.chunk → HasSeen map (is_deep (last_kind past)) (at_place deposit.place (past_in members q))) → IsCited members past deposit.place map) m.osd_is
+    let items : applied_items (at_place scanned.place shard) ≡ upto map.applied (log past) =
+    items_at stride past osd shard scanned.place legal h ∙ ap (λ n. upto n (log past)) (since.applied_is ∙ sym m.applied_is) in
+    subst (λ q. (scanned.place ≤ length (past_in members q)) → (handed_in q (scanning (at_place scanned.place (past_in members q))) ≡ Some (result_of scanned.place map))
+    → (applied_items (at_place scanned.place (past_in members q)) ≡ upto map.applied (log past))
+    → ((chunk : Chunk) → open_chunk past ≡ Some chunk → chunk.number ≡ map.chunk → HasSeen map (is_deep (last_kind past)) (at_place scanned.place (past_in members q))) → IsCited members past scanned.place map) m.osd_is
     (λ within ended first seen_there. record {
       within = within;
       ended = ended;
@@ -121,14 +121,14 @@ take_cited stride members past osd deposit map legal h e f =
       of = of_now past (scanning shard).ask m.asked map m.of h.asked m.chunk_is m.serial_is m.range_is m.needed_is;
       seen = seen_there;
     }) since.within (ap (λ s. handed_in osd s) since.same ∙ told ∙ ap (λ d. Some d) m.whole) items
-    (seen_now past (scanning shard).ask m.asked map (scanning shard).entries (at_place deposit.place shard) m.of h.asked m.chunk_is m.range_is m.entries_is
-    (seen stride shard legal deposit.place m.count m.asked m.phase_is m.of))
+    (seen_now past (scanning shard).ask m.asked map (scanning shard).entries (at_place scanned.place shard) m.of h.asked m.chunk_is m.range_is m.entries_is
+    (seen stride shard legal scanned.place m.count m.asked m.phase_is m.of))
 
 -- ---- a fault
 
-fault_of_past : (osd : ℕ) (shard : List ShardEvent) (deposit : Deposit) (count : ℕ) → handed_in osd (scanning shard) ≡ Some deposit → deposit.found ≡ handed.ListFault count
-    → IsFaultFrom osd (scanning shard).ask (scanning shard).phase deposit count
-fault_of_past osd shard deposit count e f = fault_of_scan osd (scanning shard).ask (scanning shard) deposit count refl e f
+fault_of_past : (osd : ℕ) (shard : List ShardEvent) (scanned : ScanResult) (count : ℕ) → handed_in osd (scanning shard) ≡ Some scanned → scanned.found ≡ results.ListFault count
+    → IsFaultFrom osd (scanning shard).ask (scanning shard).phase scanned count
+fault_of_past osd shard scanned count e f = fault_of_scan osd (scanning shard).ask (scanning shard) scanned count refl e f
 
 -- an ask that is asked is of an opened chunk
 asked_is : (past : List Event) (asked : Option Ask) (ask : Ask) → asked ≡ Some ask → IsAsked past asked → IsOfOpened past ask
@@ -139,16 +139,16 @@ scan_cited members serial zero osd count some h = absurd (omega (arith, some))
 scan_cited members serial (suc chunk) osd count some h = h
 
 -- the fault is cited at its place, and is of a scrub that began
-pub fault_cited : (stride : ℕ) (members : List Member) (past : List Event) (osd : ℕ) (deposit : Deposit) (count : ℕ) → IsLegalShard stride (past_in members osd) → IsInStep past osd (past_in members osd)
-    → hand_in members osd ≡ Some deposit → deposit.found ≡ handed.ListFault count → IsFaultCited members deposit.serial deposit.chunk osd count × IsBegun past deposit.serial
-fault_cited stride members past osd deposit count legal h e f =
+pub fault_cited : (stride : ℕ) (members : List Member) (past : List Event) (osd : ℕ) (scanned : ScanResult) (count : ℕ) → IsLegalShard stride (past_in members osd) → IsInStep past osd (past_in members osd)
+    → hand_in members osd ≡ Some scanned → scanned.found ≡ results.ListFault count → IsFaultCited members scanned.serial scanned.chunk osd count × IsBegun past scanned.serial
+fault_cited stride members past osd scanned count legal h e f =
     let shard : List ShardEvent = past_in members osd in
-    let told : handed_in osd (scanning shard) ≡ Some deposit = sym (hand_of members osd) ∙ e in
-    let m = fault_of_past osd shard deposit count told f in
-    let since = failed_since stride shard deposit.place m.count count legal m.phase_is in
+    let told : handed_in osd (scanning shard) ≡ Some scanned = sym (hand_of members osd) ∙ e in
+    let m = fault_of_past osd shard scanned count told f in
+    let since = failed_since stride shard scanned.place m.count count legal m.phase_is in
     let opened = asked_is past (scanning shard).ask m.asked m.of h.asked in (
-      scan_cited members deposit.serial deposit.chunk osd count (subst (λ n. 1 ≤ n) (sym m.chunk_is) opened.some) (record {
-        place = deposit.place;
+      scan_cited members scanned.serial scanned.chunk osd count (subst (λ n. 1 ≤ n) (sym m.chunk_is) opened.some) (record {
+        place = scanned.place;
         applied = m.count;
         within = since.within;
         ended = ap (λ s. handed_in osd s) since.same ∙ told ∙ ap (λ d. Some d) m.whole;
@@ -156,11 +156,11 @@ fault_cited stride members past osd deposit count legal h e f =
       subst (IsBegun past) (sym m.serial_is) opened.begun,
     )
 
-pub fault_begun : (w : PlacementState) (osd : ℕ) (deposit : Deposit) (count : ℕ) → IsSound w → is_member w.made osd ≡ true → Some deposit ≡ hand_in w.members osd → handed.ListFault count ≡ deposit.found
-    → IsBegun w.past deposit.serial
-fault_begun w osd deposit count s member e f =
+pub fault_begun : (w : PlacementState) (osd : ℕ) (scanned : ScanResult) (count : ℕ) → IsSound w → is_member w.made osd ≡ true → Some scanned ≡ hand_in w.members osd → results.ListFault count ≡ scanned.found
+    → IsBegun w.past scanned.serial
+fault_begun w osd scanned count s member e f =
     let h = s.steady.in_step in
-    (fault_cited w.stride w.members w.past osd deposit count (legal_in w.stride w.members osd h.whole) (h.each osd member) (sym e) (sym f)).1
+    (fault_cited w.stride w.members w.past osd scanned count (legal_in w.stride w.members osd h.whole) (h.each osd member) (sym e) (sym f)).1
 
 -- ---- nothing
 

@@ -11,8 +11,8 @@ use Rattle.pgs_history.specs.declared.chunk.Chunk.{Chunk}
 use Rattle.pgs_history.specs.declared.event.Event.{Event}
 use Rattle.pgs_history.specs.declared.event.Event.TheVariants.{Take, Fault}
 use Rattle.pgs_shard.specs.Scans.{handed_in}
-use Rattle.pgs_shard.specs.declared.deposit.Deposit.{Deposit}
-use Rattle.pgs_shard.specs.declared.deposit.Handed.TheVariants as handed
+use Rattle.pgs_exchange.specs.declared.scan_result.ScanResult.{ScanResult}
+use Rattle.pgs_exchange.specs.declared.scan_result.Found.TheVariants as results
 use Rattle.pgs_shard_history.specs.Laws.{applied_items}
 use Rattle.pgs_shard_history.specs.Scanning.{scanning}
 use Rattle.pgs_shard_history.specs.Scans.{at_place}
@@ -22,8 +22,8 @@ use Rattle.pgs_seen.specs.Seen.{seen_entry}
 use Rattle.pgs_shards.specs.Members.{Member, past_in}
 
 -- what an OSD hands whose scan ended with a map at a place
-abbrev pub deposit_of : ℕ → ScrubMap → Deposit
-deposit_of place map = record { osd = map.osd; serial = map.serial; chunk = map.chunk; applied = map.applied; place = place; found = handed.Map map }
+abbrev pub result_of : ℕ → ScrubMap → ScanResult
+result_of place map = record { osd = map.osd; serial = map.serial; chunk = map.chunk; applied = map.applied; place = place; found = results.Map map }
 
 -- what a map says of its chunk
 pub record IsMapOf (chunk : Chunk) (map : ScrubMap) : Type 0 where
@@ -41,7 +41,7 @@ HasSeen map deep past = (id : ObjectId) → in_range map.range id.family ≡ tru
 -- the map was of that, and has the entries of the copies that the scan saw, with digests where the scrub is deep.
 pub record IsCited (members : List Member) (past : List Event) (place : ℕ) (map : ScrubMap) : Type 0 where
   pub within : place ≤ length (past_in members map.osd)
-  pub ended : handed_in map.osd (scanning (at_place place (past_in members map.osd))) ≡ Some (deposit_of place map)
+  pub ended : handed_in map.osd (scanning (at_place place (past_in members map.osd))) ≡ Some (result_of place map)
   pub items : applied_items (at_place place (past_in members map.osd)) ≡ upto map.applied (log past)
   pub needed : map.needed ≤ map.applied
   pub logged : map.applied ≤ length (log past)
@@ -49,8 +49,8 @@ pub record IsCited (members : List Member) (past : List Event) (place : ℕ) (ma
   pub seen : (chunk : Chunk) → open_chunk past ≡ Some chunk → chunk.number ≡ map.chunk → HasSeen map (is_deep (last_kind past)) (at_place place (past_in members map.osd))
 
 -- what an OSD hands whose scan of a chunk ended with a fault at a place
-abbrev pub fault_of : ℕ → ℕ → ℕ → ℕ → ℕ → ℕ → Deposit
-fault_of osd serial chunk count applied place = record { osd = osd; serial = serial; chunk = chunk; applied = applied; place = place; found = handed.ListFault count }
+abbrev pub fault_of : ℕ → ℕ → ℕ → ℕ → ℕ → ℕ → ScanResult
+fault_of osd serial chunk count applied place = record { osd = osd; serial = serial; chunk = chunk; applied = applied; place = place; found = results.ListFault count }
 
 -- A fault of a scan that a group was given: the OSD's scan of that chunk had ended with it at a place of its history.
 pub record IsScanFault (members : List Member) (serial chunk osd count : ℕ) : Type 0 where

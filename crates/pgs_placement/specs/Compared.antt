@@ -19,7 +19,7 @@ use Rattle.pgs_shard_history.specs.Laws.{applied_items}
 use Rattle.pgs_shard_history.specs.Scanning.{scanning}
 use Rattle.pgs_shard_history.specs.Scans.{at_place}
 use Rattle.pgs_shards.specs.Members.{Member, past_in}
-use Rattle.pgs_placement.specs.Cited.{deposit_of, IsMapOf, HasSeen}
+use Rattle.pgs_placement.specs.Cited.{result_of, IsMapOf, HasSeen}
 use Rattle.pgs_placement.specs.Versions.{items_in}
 
 -- An acting OSD gave a map of the open chunk: it is what the OSD's scan had ended with at a place of its history, and there the OSD had applied, of the
@@ -31,7 +31,7 @@ pub record IsCompared (members : List Member) (past : List Event) (chunk : Chunk
   pub given : taken past chunk.number osd ≡ Some map
   pub of : IsMapOf chunk map
   pub within : place ≤ length (past_in members osd)
-  pub ended : handed_in osd (scanning (at_place place (past_in members osd))) ≡ Some (deposit_of place map)
+  pub ended : handed_in osd (scanning (at_place place (past_in members osd))) ≡ Some (result_of place map)
   pub version : items_in chunk.range (applied_items (at_place place (past_in members osd))) ≡ items_in chunk.range (upto chunk.version (log past))
   pub all : items_in chunk.range (upto chunk.version (log past)) ≡ items_in chunk.range (log past)
   pub seen : HasSeen map (is_deep (last_kind past)) (at_place place (past_in members osd))

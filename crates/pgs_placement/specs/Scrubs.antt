@@ -15,9 +15,9 @@ use Rattle.pgs_history.specs.After.{after_begin, after_reserve, after_open, afte
 use Rattle.pgs_history.specs.declared.made.Made.{Made}
 use Rattle.pgs_history.specs.declared.event.Event.{Event}
 use Rattle.pgs_group.specs.Steps.{close_told}
-use Rattle.pgs_shard.specs.declared.deposit.Deposit.{Deposit}
-use Rattle.pgs_shard.specs.declared.deposit.Handed.{Handed}
-use Rattle.pgs_shard.specs.declared.deposit.Handed.TheVariants as handed
+use Rattle.pgs_exchange.specs.declared.scan_result.ScanResult.{ScanResult}
+use Rattle.pgs_exchange.specs.declared.scan_result.Found.{Found}
+use Rattle.pgs_exchange.specs.declared.scan_result.Found.TheVariants as results
 use Rattle.pgs_shards.specs.Members.{Member}
 use Rattle.pgs_shards.specs.Listings.{list_in, with_listed}
 use Rattle.pgs_shards.specs.Scans.{hand_in, with_handed}
@@ -143,21 +143,21 @@ after_opening w group = opening_of (present w.past) w group
 -- ---- take
 
 -- A map is given to the group, and so is a fault.
-abbrev pub found_taken : Handed → Deposit → PlacementState → ℕ → ℕ → PlacementState
-found_taken (handed.Map map) deposit w group osd = record w {
-  past = after_take w.past deposit.place map;
+abbrev pub found_taken : Found → ScanResult → PlacementState → ℕ → ℕ → PlacementState
+found_taken (results.Map map) scanned w group osd = record w {
+  past = after_take w.past scanned.place map;
   members = with_handed osd w.members;
-  done = dones.Take group osd (take_said deposit.applied deposit.place (take_answer w.past map)) ∷ w.done;
+  done = dones.Take group osd (take_said scanned.applied scanned.place (take_answer w.past map)) ∷ w.done;
 }
-found_taken (handed.ListFault count) deposit w group osd = record w {
-  past = after_fault w.made w.past deposit.serial deposit.chunk osd count;
+found_taken (results.ListFault count) scanned w group osd = record w {
+  past = after_fault w.made w.past scanned.serial scanned.chunk osd count;
   members = with_handed osd w.members;
-  done = dones.Take group osd (fault_said count (fault_answer w.made w.past deposit.serial deposit.chunk)) ∷ w.done;
+  done = dones.Take group osd (fault_said count (fault_answer w.made w.past scanned.serial scanned.chunk)) ∷ w.done;
 }
 
-abbrev pub handed_taken : Option Deposit → PlacementState → ℕ → ℕ → PlacementState
+abbrev pub handed_taken : Option ScanResult → PlacementState → ℕ → ℕ → PlacementState
 handed_taken None w group osd = record w { done = dones.Take group osd line_takes.NotDone ∷ w.done }
-handed_taken (Some deposit) w group osd = found_taken deposit.found deposit w group osd
+handed_taken (Some scanned) w group osd = found_taken scanned.found scanned w group osd
 
 -- an OSD hands what its scan ended with, if it ended with something
 abbrev pub after_taking : PlacementState → ℕ → ℕ → PlacementState

@@ -4,3 +4,4 @@ pub mod Listings
 pub mod Sizes
 pub mod Sums
 pub mod Steps
+pub mod Copies

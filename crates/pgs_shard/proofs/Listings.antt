@@ -194,22 +194,22 @@ answered_counts zero device = refl
 answered_counts (suc calls) device = answered_counts calls device
 
 -- the device answered
-pub tied_answered : (stride calls : ℕ) (old new : Device) (items : List Item) (count : ℕ) (scan : Scan) (past : List Event) → IsTied stride old items count scan past → new ≡ answered calls old
-    → IsTied stride new items count scan past
-tied_answered stride calls old new items count scan past tied e =
-    tied_read stride old new items count scan past tied (ap (λ (d : Device). d.stored) e ∙ answered_stores calls old)
+pub tied_answered : (osd stride calls : ℕ) (old new : Device) (items : List Item) (count : ℕ) (scan : Scan) (past : List Event) → IsTied osd stride old items count scan past → new ≡ answered calls old
+    → IsTied osd stride new items count scan past
+tied_answered osd stride calls old new items count scan past tied e =
+    tied_read osd stride old new items count scan past tied (ap (λ (d : Device). d.stored) e ∙ answered_stores calls old)
     (omega (arith, ap (λ (d : Device). d.faults) e, answered_counts calls old))
 
-due_failed : (stride most : ℕ) (old new : Device) (items : List Item) (count faults : ℕ) (scan : Scan) (past : List Event) → IsTied stride old items count scan past → IsFailedAfter most old new → faults ≡ new.faults
+due_failed : (osd stride most : ℕ) (old new : Device) (items : List Item) (count faults : ℕ) (scan : Scan) (past : List Event) → IsTied osd stride old items count scan past → IsFailedAfter most old new → faults ≡ new.faults
     → Rose (last_count past) faults
-due_failed stride most old new items count faults scan past tied failed e =
+due_failed osd stride most old new items count faults scan past tied failed e =
     subst (λ n. Rose (last_count past) n) (sym e)
     (rose_from (last_count past) (answered failed.calls old).faults new.faults (omega (arith, tied.counted, answered_counts failed.calls old)) failed.failed.1)
 
 -- the device failed
-pub tied_failed : (stride most : ℕ) (old new : Device) (items : List Item) (count faults : ℕ) (scan : Scan) (past : List Event) → IsTied stride old items count scan past → IsFailedAfter most old new → faults ≡ new.faults
-    → IsTied stride new items count scan (ListFailed faults ∷ past)
-tied_failed stride most old new items count faults scan past tied failed e = record {
+pub tied_failed : (osd stride most : ℕ) (old new : Device) (items : List Item) (count faults : ℕ) (scan : Scan) (past : List Event) → IsTied osd stride old items count scan past → IsFailedAfter most old new → faults ≡ new.faults
+    → IsTied osd stride new items count scan (ListFailed faults ∷ past)
+tied_failed osd stride most old new items count faults scan past tied failed e = record {
   all_items = tied.all_items;
   numbered = tied.numbered;
   count_is = tied.count_is;
@@ -217,7 +217,7 @@ tied_failed stride most old new items count faults scan past tied failed e = rec
   holds = ap (λ (d : Device). d.stored) failed.failed.0 ∙ answered_stores failed.calls old ∙ tied.holds;
   counted = omega (arith, e);
   scan_is = tied.scan_is;
-  legal = (due_failed stride most old new items count faults scan past tied failed e, tied.legal);
+  legal = (due_failed osd stride most old new items count faults scan past tied failed e, tied.legal);
   some = tied.some;
 }
 

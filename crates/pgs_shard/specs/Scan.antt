@@ -2,53 +2,58 @@
 use Rattle.std.specs.Prelude.{ℕ, zero, suc, ◌<◌, ◌&&◌, nat_lt, Bool, false, List, [], ◌∷◌, ◌++◌, Option, Some, None, option_map, if◌then◌else◌}
 use Rattle.pgs_name.specs.Families.{Family}
 use Rattle.pgs_range.specs.Ranges.{in_range}
-use Rattle.pgs_range.specs.declared.family_range.FamilyRange.{FamilyRange}
 use Rattle.pgs_chunk.specs.declared.ask.Ask.{Ask}
 use Rattle.pgs_copy.specs.declared.obj_copy.ObjCopy.{ObjCopy}
 use Rattle.pgs_map.specs.declared.entry.Entry.{Entry}
+use Rattle.pgs_map.specs.declared.scrub_map.ScrubMap.{ScrubMap}
+use Rattle.pgs_exchange.specs.declared.scan_result.Found.TheVariants as results
+use Rattle.pgs_exchange.specs.declared.scan_result.ScanResult.{ScanResult}
 use Rattle.pgs_name.specs.declared.object_id.ObjectId.{ObjectId}
 use Rattle.pgs_scan.specs.Reads.{Read, read_after}
 use Rattle.pgs_shard_history.specs.Scanning.{Scanning}
 use Rattle.pgs_shard_history.specs.Scanning as scannings
+use Rattle.pgs_shard_history.specs.Scans.{map_of}
 use Rattle.pgs_shard_history.specs.declared.phase.Phase.{Phase}
 use Rattle.pgs_shard_history.specs.declared.phase.Phase.TheVariants.{Waiting, Between, Reading, Mapped, Failed, Over}
-use Rattle.pgs_shard.specs.declared.deposit.Deposit.{Deposit}
-use Rattle.pgs_shard.specs.declared.deposit.Handed.TheVariants as handed_as
 use Rattle.pgs_shard.specs.declared.scan_due.ScanDue.{ScanDue}
 use Rattle.pgs_shard.specs.declared.scan_due.ScanDue.TheVariants as dues
 
--- the newest ask, and where its scan is: the position found last, what was read of its copy once its size and attributes were, the entries of the copies that were passed, and once it ended with a map the ask's range for that
+-- the newest ask, and where its scan is: the position found last, what was read of its copy once its size and attributes were, the entries of the copies that were passed, and once it ended with a map that map in their place
 pub record Scan : Type 0 where
   pub ask : Option Ask
   pub phase : Phase
   pub last : Option ObjectId
   pub reading : Option Read
   pub entries : List Entry
-  pub range : Option FamilyRange
+  pub map : Option ScrubMap
 
 -- what was read of a copy after so many steps: nothing before the first
 abbrev pub reading_of : ℕ → ℕ → Option ObjCopy → Option Read
 reading_of stride zero copy = None
 reading_of stride (suc steps) copy = option_map (read_after stride (suc steps)) copy
 
--- a range for the map, made when the scan ends with one
-abbrev pub range_of : Phase → Option Ask → Option FamilyRange
-range_of (Mapped place count) ask = option_map (λ a. a.range) ask
-range_of phase ask = None
+-- the entries stand in the map, once the scan ended with one
+abbrev pub entries_of : Phase → List Entry → List Entry
+entries_of (Mapped place count) entries = []
+entries_of phase entries = entries
 
--- what is kept of a scan
-abbrev pub scan_of : ℕ → Scanning → Scan
-scan_of stride s = record {
+abbrev pub map_made : ℕ → Phase → Option Ask → List Entry → Option ScrubMap
+map_made osd (Mapped place count) ask entries = option_map (λ a. map_of osd a count entries) ask
+map_made osd phase ask entries = None
+
+-- what a member keeps of a scan
+abbrev pub scan_of : ℕ → ℕ → Scanning → Scan
+scan_of osd stride s = record {
   ask = s.ask;
   phase = s.phase;
   last = s.last;
   reading = reading_of stride s.steps s.copy;
-  entries = s.entries;
-  range = range_of s.phase s.ask;
+  entries = entries_of s.phase s.entries;
+  map = map_made osd s.phase s.ask s.entries;
 }
 
 abbrev pub no_scan : Scan
-no_scan = record { ask = None; phase = Waiting; last = None; reading = None; entries = []; range = None }
+no_scan = record { ask = None; phase = Waiting; last = None; reading = None; entries = []; map = None }
 
 abbrev pub cleared : Phase → Scan → Scan
 cleared phase scan = record no_scan { ask = scan.ask; phase = phase }
@@ -100,7 +105,7 @@ reads scan family snap = scannings.is_reading scan.phase && scannings.is_last sc
 
 -- a position was found, of which nothing is read
 abbrev pub found : ObjectId → Scan → Scan
-found id scan = record scan { phase = Reading; last = Some id; reading = None; range = None }
+found id scan = record scan { phase = Reading; last = Some id; reading = None; map = None }
 
 -- more is left of its copy
 abbrev pub going_on : Read → Scan → Scan
@@ -108,15 +113,15 @@ going_on reading scan = record scan { reading = Some reading }
 
 -- it was passed
 abbrev pub passed : Entry → Scan → Scan
-passed entry scan = record scan { phase = Between; reading = None; entries = scan.entries ++ entry ∷ []; range = None }
+passed entry scan = record scan { phase = Between; reading = None; entries = scan.entries ++ entry ∷ []; map = None }
 
 -- the scan ended with a map
-abbrev pub mapped : ℕ → ℕ → FamilyRange → Scan → Scan
-mapped place count range scan = record scan { phase = Mapped place count; range = Some range }
+abbrev pub mapped : ℕ → ℕ → ScrubMap → Scan → Scan
+mapped place count map scan = record scan { phase = Mapped place count; entries = []; map = Some map }
 
 -- or with a fault
 abbrev pub failed : ℕ → ℕ → ℕ → Scan → Scan
-failed place count faults scan = record scan { phase = Failed place count faults; range = None }
+failed place count faults scan = record scan { phase = Failed place count faults; map = None }
 
 -- there is room for the event by which the result of a scan that ended is handed
 abbrev pub HasRoomToHand : Phase → ℕ → ℕ → Type 0
@@ -146,26 +151,25 @@ due_in scan count = due_by scan.ask scan count
 
 -- ---- handing
 
--- what an ended scan of an ask hands, where the ask's range is kept for the map
-abbrev pub handed_map : ℕ → ℕ → ℕ → Ask → List Entry → Option FamilyRange → Option Deposit
-handed_map osd place count ask entries None = None
-handed_map osd place count ask entries (Some range) =
-    Some (record { osd = osd; serial = ask.serial; chunk = ask.chunk; applied = count; place = place; found = handed_as.Map (record { osd = osd; serial = ask.serial; chunk = ask.chunk; needed = ask.needed; applied = count; range = range; entries = entries }) })
+-- what an ended scan of an ask hands, where the map is kept
+abbrev pub handed_map : ℕ → ℕ → ℕ → Ask → Option ScrubMap → Option ScanResult
+handed_map osd place count ask None = None
+handed_map osd place count ask (Some map) = Some (record { osd = osd; serial = ask.serial; chunk = ask.chunk; applied = count; place = place; found = results.Map map })
 
-abbrev pub handed_at : ℕ → Phase → Ask → Scan → Option Deposit
-handed_at osd (Mapped place count) ask scan = handed_map osd place count ask scan.entries scan.range
+abbrev pub handed_at : ℕ → Phase → Ask → Scan → Option ScanResult
+handed_at osd (Mapped place count) ask scan = handed_map osd place count ask scan.map
 handed_at osd (Failed place count faults) ask scan =
-    Some (record { osd = osd; serial = ask.serial; chunk = ask.chunk; applied = count; place = place; found = handed_as.ListFault faults })
+    Some (record { osd = osd; serial = ask.serial; chunk = ask.chunk; applied = count; place = place; found = results.ListFault faults })
 handed_at osd phase ask scan = None
 
-abbrev pub handed_by : ℕ → Option Ask → Scan → Option Deposit
+abbrev pub handed_by : ℕ → Option Ask → Scan → Option ScanResult
 handed_by osd None scan = None
 handed_by osd (Some ask) scan = handed_at osd scan.phase ask scan
 
-abbrev pub handed : ℕ → Scan → Option Deposit
+abbrev pub handed : ℕ → Scan → Option ScanResult
 handed osd scan = handed_by osd scan.ask scan
 
 -- nothing is left of a scan whose result was handed
-abbrev pub after_handing : Option Deposit → Scan → Scan
+abbrev pub after_handing : Option ScanResult → Scan → Scan
 after_handing None scan = scan
-after_handing (Some deposit) scan = cleared Over scan
+after_handing (Some result) scan = cleared Over scan

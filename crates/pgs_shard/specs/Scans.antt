@@ -4,6 +4,9 @@ use Rattle.pgs_chunk.specs.declared.ask.Ask.{Ask}
 use Rattle.pgs_copy.specs.declared.obj_copy.ObjCopy.{ObjCopy}
 use Rattle.pgs_map.specs.Entries.{AreInRange}
 use Rattle.pgs_map.specs.declared.entry.Entry.{Entry}
+use Rattle.pgs_exchange.specs.declared.scan_result.Found.{Found}
+use Rattle.pgs_exchange.specs.declared.scan_result.Found.TheVariants as results
+use Rattle.pgs_exchange.specs.declared.scan_result.ScanResult.{ScanResult}
 use Rattle.pgs_medium.specs.Device.{Device}
 use Rattle.pgs_medium.specs.declared.call_kind.CallKind.TheVariants as kinds
 use Rattle.pgs_scan.specs.Calls.{IsOnlyRead, IsCalled, AreCalled, IsStatFailure, kind_of}
@@ -18,9 +21,6 @@ use Rattle.pgs_shard_history.specs.declared.event.Event.TheVariants.{Scanned, Ha
 use Rattle.pgs_shard_history.specs.declared.phase.Phase.{Phase}
 use Rattle.pgs_shard_history.specs.declared.phase.Phase.TheVariants as phases
 use Rattle.pgs_shard_history.specs.declared.scan_event.ScanEvent.TheVariants as events
-use Rattle.pgs_shard.specs.declared.deposit.Deposit.{Deposit}
-use Rattle.pgs_shard.specs.declared.deposit.Handed.{Handed}
-use Rattle.pgs_shard.specs.declared.deposit.Handed.TheVariants as handed
 use Rattle.pgs_shard.specs.declared.scan_answer.ScanAnswer.{ScanAnswer}
 use Rattle.pgs_shard.specs.declared.scan_answer.ScanAnswer.TheVariants as answers
 
@@ -91,29 +91,29 @@ IsScanLeft stride s old (Err _) new = IsOnlyRead old new
 -- ---- handing
 
 -- what is handed of a scan of an ask that ended
-abbrev pub handed_at : ℕ → Phase → Ask → List Entry → Option Deposit
+abbrev pub handed_at : ℕ → Phase → Ask → List Entry → Option ScanResult
 handed_at osd (phases.Mapped place count) ask entries =
-    Some (record { osd = osd; serial = ask.serial; chunk = ask.chunk; applied = count; place = place; found = handed.Map (map_of osd ask count entries) })
+    Some (record { osd = osd; serial = ask.serial; chunk = ask.chunk; applied = count; place = place; found = results.Map (map_of osd ask count entries) })
 handed_at osd (phases.Failed place count faults) ask entries =
-    Some (record { osd = osd; serial = ask.serial; chunk = ask.chunk; applied = count; place = place; found = handed.ListFault faults })
+    Some (record { osd = osd; serial = ask.serial; chunk = ask.chunk; applied = count; place = place; found = results.ListFault faults })
 handed_at osd phase ask entries = None
 
-abbrev pub handed_by : ℕ → Option Ask → Scanning → Option Deposit
+abbrev pub handed_by : ℕ → Option Ask → Scanning → Option ScanResult
 handed_by osd None s = None
 handed_by osd (Some ask) s = handed_at osd s.phase ask s.entries
 
-abbrev pub handed_in : ℕ → Scanning → Option Deposit
+abbrev pub handed_in : ℕ → Scanning → Option ScanResult
 handed_in osd s = handed_by osd s.ask s
 
 -- the history after it
-abbrev pub past_after_hand : Option Deposit → List Event → List Event
+abbrev pub past_after_hand : Option ScanResult → List Event → List Event
 past_after_hand None past = past
-past_after_hand (Some deposit) past = HandedEvent ∷ past
+past_after_hand (Some result) past = HandedEvent ∷ past
 
 -- the entries of a map that is handed are in order and of its range
-abbrev pub IsInRange : Handed → Type 0
-IsInRange (handed.Map map) = AreInRange map.range map.entries
-IsInRange (handed.ListFault count) = Unit {0}
+abbrev pub IsInRange : Found → Type 0
+IsInRange (results.Map map) = AreInRange map.range map.entries
+IsInRange (results.ListFault count) = Unit {0}
 
-abbrev pub IsHandedInRange : Deposit → Type 0
-IsHandedInRange deposit = IsInRange deposit.found
+abbrev pub IsHandedInRange : ScanResult → Type 0
+IsHandedInRange result = IsInRange result.found

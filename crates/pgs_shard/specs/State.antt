@@ -21,13 +21,13 @@ abbrev pub with_event : {M : Type 0} → Event → ShardState M → ShardState M
 with_event event shard = record shard { past = event ∷ shard.past }
 
 -- The fields of a shard are what its history says: the items that it was fed, oldest first, how many of them are applied, where its scan is, and what the device holds; the device counted each fault that was kept; and each event was one that may come after those before it.
-pub record IsTied (stride : ℕ) (device : Device) (items : List Item) (count : ℕ) (scan : Scan) (past : List Event) : Type 0 where
+pub record IsTied (osd stride : ℕ) (device : Device) (items : List Item) (count : ℕ) (scan : Scan) (past : List Event) : Type 0 where
   pub all_items : items ≡ reverse (fed past)
   pub numbered : AreNumbered (fed past)
   pub count_is : count ≡ applied past
   pub within : count ≤ length items
   pub holds : device.stored ≡ stored_by past
   pub counted : last_count past ≤ device.faults
-  pub scan_is : scan ≡ scan_of stride (scanning past)
+  pub scan_is : scan ≡ scan_of osd stride (scanning past)
   pub legal : IsLegal stride past
   pub some : 1 ≤ stride

@@ -5,7 +5,6 @@
 mod applied;
 mod apply_error;
 mod damaging;
-mod deposit;
 mod holding;
 mod items_beyond;
 mod list_error;
@@ -18,7 +17,6 @@ mod writing;
 
 pub use applied::Applied;
 pub use apply_error::ApplyError;
-pub use deposit::{Deposit, Handed};
 pub use list_error::ListError;
 pub use scan_answer::ScanAnswer;
 pub use shard::Shard;

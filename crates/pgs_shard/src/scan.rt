@@ -1,27 +1,28 @@
 ghost use Rattle.std.specs.Prelude.{◌≡◌, ◌≤◌, nat_lt, is_none, is_some, true, false, Some, option_map, IfOk, IfSome, OnOk, OnErr, if◌then◌else◌};
 ghost use Rattle.pgs_map.specs.Entries.{entry_of};
 ghost use Rattle.pgs_scan.specs.Seen.{entry_without_digests};
+ghost use Rattle.pgs_exchange.specs.Deposits.{deposit_of, read_deposit, as_read};
 ghost use Rattle.pgs_shard_history.specs.Scanning as scannings;
+ghost use Rattle.pgs_shard_history.specs.Scans.{map_of};
 ghost use Rattle.pgs_shard_history.specs.declared.phase.Phase.TheVariants.{Reading as ReadingPhase};
 ghost use Rattle.pgs_shard.specs.Scan as defined;
 ghost use Rattle.pgs_shard.specs.Steps.{IsListedFor, IsFrontOf, IsReadFor};
 ghost use Rattle.pgs_shard.specs.declared.scan_due.ScanDue.TheVariants.{NotYet, Next, Stat, Read};
 
-use crate::deposit::{Deposit, Handed};
 use crate::scan_due::ScanDue;
 use pgs_chunk::Ask;
 use pgs_copy::Pairs;
 use pgs_crc::Tables;
+use pgs_exchange::{Deposit, EncodedMap, Handed};
 use pgs_map::{Entry, ScrubMap};
 use pgs_medium::{Item, Medium, MediumError};
 use pgs_name::{Family, ObjectId};
-use pgs_range::{Cursor, FamilyRange};
+use pgs_range::Cursor;
 use pgs_scan::{Reading, ReadingStep};
 use pgs_shard_history::Phase;
 use sqlite_items::Items;
 use std::alloc::{AllocError, Global};
 use std::marker::Model;
-use std::mem;
 
 /// The newest ask of a shard, and where its scan is.
 #[derive(Drop)]
@@ -34,8 +35,8 @@ pub struct Scan {
     reading: Option<Reading>,
     // The entries of the copies that were passed. While a copy is read there is room for its own.
     entries: Vec<Entry>,
-    // The ask's range, for the map with which the scan ended.
-    range: Option<FamilyRange>,
+    // The map with which the scan ended: the entries stand in it.
+    map: Option<EncodedMap>,
 }
 
 impl Model for Scan {
@@ -50,7 +51,7 @@ impl Model for Scan {
       last = s.last;
       reading = s.reading;
       entries = s.entries.items;
-      range = s.range;
+      map = s.map;
     } };
 
     ghost invariant = { λ s. HasRoom s.phase (vec_len s.entries) (vec_capacity s.entries) };
@@ -67,7 +68,7 @@ impl Scan {
             last: None,
             reading: None,
             entries: Vec::new(alloc),
-            range: None,
+            map: None,
         }
     }
 
@@ -80,7 +81,7 @@ impl Scan {
         self.last = None;
         self.reading = None;
         self.entries = Vec::new(alloc);
-        self.range = None;
+        self.map = None;
     }
 
     // Whether an ask is of a later chunk than the kept one.
@@ -259,7 +260,7 @@ impl Scan {
         self.phase = Phase::Reading;
         self.last = Some(id);
         self.reading = None;
-        self.range = None;
+        self.map = None;
         Ok(())
     }
 
@@ -278,15 +279,16 @@ impl Scan {
         self.entries.push_reserved(entry);
         self.phase = Phase::Between;
         self.reading = None;
-        self.range = None;
+        self.map = None;
     }
 
-    /// It ended with a map of this range, when the shard had so many events and had applied so many items.
-    pub fn end(&mut self, place: u64, applied: u64, range: FamilyRange)
-        ensures { self.new ≡ defined.mapped place applied range self.old }
+    /// It ended with this map, when the shard had so many events and had applied so many items.
+    pub fn end(&mut self, alloc: Global, place: u64, applied: u64, map: EncodedMap)
+        ensures { self.new ≡ defined.mapped place applied map self.old }
     {
         self.phase = Phase::Mapped { place, applied };
-        self.range = Some(range);
+        self.entries = Vec::new(alloc);
+        self.map = Some(map);
     }
 
     /// It ended with a fault.
@@ -298,7 +300,7 @@ impl Scan {
             applied,
             count,
         };
-        self.range = None;
+        self.map = None;
     }
 
     /// The position that was found last.
@@ -312,18 +314,38 @@ impl Scan {
         id.clone()
     }
 
-    /// The range that was asked for.
-    pub fn range(&self) -> Result<FamilyRange, AllocError>
+    // Copies of the entries of the copies that were passed.
+    #[tactic(auto, using(crate::proofs::Copies::copied))]
+    fn passed(&self) -> Result<Items<Entry>, AllocError>
+        ensures { IfOk result (λ entries. entries ≡ self.now.entries) }
+    {
+        let entries = self.entries.clone()?;
+        Ok(Items::from_vec(entries))
+    }
+
+    /// The map with which it ends where so many items are applied, of a member.
+    pub fn encoded(&self, alloc: Global, osd: u32, applied: u64) -> Result<EncodedMap, AllocError>
         requires { is_some self.now.ask ≡ true }
-        ensures { IfOk result (λ range. Some range ≡ option_map (λ ask. ask.range) self.now.ask) }
+        ensures { IfOk result (λ map. Some map ≡ option_map (λ ask. map_of osd ask applied self.now.entries) self.now.ask) }
     {
         let Some(ask) = &self.ask else {
             unreachable!();
         };
-        ask.range.clone()
+        let range = ask.range.clone()?;
+        let entries = self.passed()?;
+        let map = ScrubMap {
+            osd,
+            serial: ask.serial,
+            chunk: ask.chunk,
+            needed: ask.needed,
+            applied,
+            range,
+            entries,
+        };
+        EncodedMap::new(alloc, &map)
     }
 
-    /// The next position of that range.
+    /// The next position of the range that was asked for.
     pub fn next_of<M: Medium>(&self, medium: &mut M) -> Result<Option<ObjectId>, MediumError>
         requires { is_some self.now.ask ≡ true }
         ensures { IsListedFor self.now.ask self.now.last (M.device medium.old) result (M.device medium.new) }
@@ -387,19 +409,18 @@ impl Scan {
 
     /// What it ended with is handed, of a member, if it has ended. It takes no memory.
     pub fn hand(&mut self, alloc: Global, osd: u32) -> Option<Deposit>
-        ensures handed { result ≡ defined.handed osd self.old }
-        ensures left { self.new ≡ defined.after_handing result self.old }
+        ensures handed { result ≡ option_map deposit_of (defined.handed osd self.old) }
+        ensures again { option_map read_deposit result ≡ option_map as_read (defined.handed osd self.old) }
+        ensures left { self.new ≡ defined.after_handing (defined.handed osd self.old) self.old }
     {
         let Some(ask) = &self.ask else {
             return None;
         };
         let serial = ask.serial;
         let chunk = ask.chunk;
-        let needed = ask.needed;
         match self.phase {
             Phase::Mapped { place, applied } => {
-                let range = self.range.take()?;
-                let entries = mem::replace(&mut self.entries, Vec::new(alloc));
+                let map = self.map.take()?;
                 self.clear(alloc, Phase::Over);
                 Some(Deposit {
                     osd,
@@ -408,15 +429,7 @@ impl Scan {
                     applied,
                     place,
                     found: Handed::Map {
-                        map: ScrubMap {
-                            osd,
-                            serial,
-                            chunk,
-                            needed,
-                            applied,
-                            range,
-                            entries: Items::from_vec(entries),
-                        },
+                        text: map.into_text(),
                     },
                 })
             }

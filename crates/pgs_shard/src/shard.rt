@@ -60,7 +60,7 @@ impl<M: Medium> Model for Shard<M> {
       medium = s.medium;
     } };
 
-    ghost invariant = { λ s. IsTied s.stride (M.device s.medium) s.items.items s.applied s.scan (reverse s.events.items) × HasRoomToHand s.scan.phase (vec_len s.events) (vec_capacity s.events) };
+    ghost invariant = { λ s. IsTied s.osd s.stride (M.device s.medium) s.items.items s.applied s.scan (reverse s.events.items) × HasRoomToHand s.scan.phase (vec_len s.events) (vec_capacity s.events) };
 }
 
 impl<M: Medium> Shard<M> {

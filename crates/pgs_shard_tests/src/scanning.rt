@@ -2,11 +2,12 @@
 use crate::making::{device, family, items};
 use pgs_chunk::Ask;
 use pgs_copy::Damage;
+use pgs_exchange::{Deposit, Found, open_deposit};
 use pgs_medium::{CallKind, Medium};
 use pgs_name::HEAD;
 use pgs_range::{Bound, FamilyRange};
 use pgs_scan::Mark;
-use pgs_shard::{Applied, Deposit, Handed, ScanAnswer, Shard};
+use pgs_shard::{Applied, ScanAnswer, Shard};
 use pgs_shard_history::DamageAnswer;
 use std::alloc::{AllocError, Global};
 use std::test::Fail;
@@ -102,17 +103,24 @@ fn damage<M: Medium>(alloc: Global, shard: &mut Shard<M>) -> Result<&'static str
     }
 }
 
-fn handed(deposit: Option<Deposit>) -> &'static str {
-    match &deposit {
-        Some(deposit) => found(&deposit.found),
+fn handed(alloc: Global, deposit: Option<Deposit>) -> &'static str {
+    match deposit {
+        Some(deposit) => opened(alloc, deposit),
         None => " nothing",
     }
 }
 
-fn found(found: &Handed) -> &'static str {
+fn opened(alloc: Global, deposit: Deposit) -> &'static str {
+    match open_deposit(alloc, deposit) {
+        Ok(told) => found(&told.found),
+        Err(_) => " no-map",
+    }
+}
+
+fn found(found: &Found) -> &'static str {
     match found {
-        Handed::Map { map } => mapped(map.entries.len()),
-        Handed::ListFault { count } => counted(*count),
+        Found::Map { map } => mapped(map.entries.len()),
+        Found::ListFault { count } => counted(*count),
     }
 }
 
@@ -131,8 +139,8 @@ fn scan<M: Medium>(alloc: Global, shard: &mut Shard<M>, count: u32) -> Result<St
     steps(shard, 1, &mut told)?;
     told.push_str(apply(shard))?;
     steps(shard, count, &mut told)?;
-    told.push_str(handed(shard.hand()))?;
-    told.push_str(handed(shard.hand()))?;
+    told.push_str(handed(alloc, shard.hand()))?;
+    told.push_str(handed(alloc, shard.hand()))?;
     Ok(told)
 }
 

@@ -1,6 +1,6 @@
 -- The shard of an OSD in a list of shards.
 use Rattle.std.proofs.Common.{◌≡◌, ℕ, zero, suc, ◌+◌, ◌<◌, ◌≤◌, ◌==◌, nat_lt, Bool, true, false, cond, not, List, [], ◌∷◌, ◌++◌, length, drop, map, Option, Some, None, get_or, set, refl, sym, ap, ◌∙◌, subst, arith}
-use Rattle.std.specs.Prelude.{position}
+use Rattle.std.specs.Prelude.{position, option_map, IfSome}
 use Rattle.std.specs.List.{position_or_len}
 use Rattle.std.proofs.lemmas.Bool.Decides.{nat_tests}
 use Rattle.std.proofs.lemmas.List.{drop_more}
@@ -11,7 +11,9 @@ use Rattle.pgs_copy.specs.declared.damage.Damage.{Damage}
 use Rattle.pgs_medium.specs.declared.ram_medium.RamMedium.{RamMedium}
 use Rattle.pgs_shards.specs.Devices.{uncalled}
 use Rattle.pgs_shard.specs.State.{ShardState}
-use Rattle.pgs_shard.specs.declared.deposit.Deposit.{Deposit}
+use Rattle.pgs_exchange.specs.Deposits.{deposit_of, read_deposit, as_read}
+use Rattle.pgs_exchange.specs.declared.deposit.Deposit.{Deposit}
+use Rattle.pgs_shard.specs.Scans.{IsHandedInRange}
 use Rattle.pgs_shard.specs.declared.scan_answer.ScanAnswer.{ScanAnswer}
 use Rattle.pgs_shard.specs.declared.scan_answer.ScanAnswer.TheVariants.{Idle}
 use Rattle.pgs_shard_history.specs.Feeds.{fed}
@@ -226,8 +228,14 @@ module _ (osd stride : ℕ) (shards : List Shard) (now : ShardsState) (view : sh
     pub scanned_none : now ≡ record now { all = with_scanned now.stride osd now.all }
     scanned_none = left_none (after_scan now.stride)
 
-    pub hand_none : None ≡ hand_in now.all osd
-    hand_none = told_none hand_answer None
+    pub hand_none : None ≡ option_map deposit_of (hand_in now.all osd)
+    hand_none = ap (option_map deposit_of) (told_none hand_answer None)
+
+    pub again_none : None ≡ option_map as_read (hand_in now.all osd)
+    again_none = ap (option_map as_read) (told_none hand_answer None)
+
+    pub range_none : IfSome (hand_in now.all osd) IsHandedInRange
+    range_none = subst (λ told. IfSome told IsHandedInRange) (told_none hand_answer None) tt
 
     pub handed_none : now ≡ record now { all = with_handed osd now.all }
     handed_none = left_none after_hand
@@ -259,8 +267,15 @@ module _ (osd stride : ℕ) (shards : List Shard) (now : ShardsState) (view : sh
     pub scan_some : AreOfStride stride shards → (answer : ScanAnswer) → answer ≡ scan_answer shard.stride (seen shard) → answer ≡ scan_in now.stride now.all osd
     scan_some all answer e = e ∙ ap (λ n. scan_answer n (seen shard)) (stride_now all) ∙ told_some (scan_answer now.stride) Idle
 
-    pub hand_some : (deposit : Option Deposit) → deposit ≡ hand_answer (seen shard) → deposit ≡ hand_in now.all osd
-    hand_some deposit e = e ∙ told_some hand_answer None
+    pub hand_some : (deposit : Option Deposit) → deposit ≡ option_map deposit_of (hand_answer (seen shard)) → deposit ≡ option_map deposit_of (hand_in now.all osd)
+    hand_some deposit e = e ∙ ap (option_map deposit_of) (told_some hand_answer None)
+
+    pub again_some : (deposit : Option Deposit) → option_map read_deposit deposit ≡ option_map as_read (hand_answer (seen shard))
+        → option_map read_deposit deposit ≡ option_map as_read (hand_in now.all osd)
+    again_some deposit e = e ∙ ap (option_map as_read) (told_some hand_answer None)
+
+    pub range_some : IfSome (hand_answer (seen shard)) IsHandedInRange → IfSome (hand_in now.all osd) IsHandedInRange
+    range_some h = subst (λ told. IfSome told IsHandedInRange) (told_some hand_answer None) h
 
     module _ (new : Shard) where
       -- what is seen with other members
@@ -316,4 +331,4 @@ pub ruleset lists = (list_none, listed_none, list_some, listed_some, called_some
 
 pub ruleset scans = (idle_none, scanned_none, scan_some, scanned_some, called_some)
 
-pub ruleset hands = (hand_none, handed_none, hand_some, handed_some)
+pub ruleset hands = (hand_none, again_none, range_none, handed_none, hand_some, again_some, range_some, handed_some)

@@ -24,7 +24,7 @@ use Rattle.pgs_shard_history.specs.declared.phase.Phase.TheVariants.{Waiting, Be
 use Rattle.pgs_shard_history.proofs.Positions.{are_positions}
 use Rattle.pgs_shard_history.proofs.Scans.{sound}
 use Rattle.pgs_shard.specs.Scans.{IsIdle, IsEarly, handed_at, handed_in, past_after_hand}
-use Rattle.pgs_shard.specs.declared.deposit.Deposit.{Deposit}
+use Rattle.pgs_exchange.specs.declared.scan_result.ScanResult.{ScanResult}
 use Rattle.pgs_shard.specs.declared.scan_answer.ScanAnswer.{ScanAnswer}
 use Rattle.pgs_shard.specs.declared.scan_answer.ScanAnswer.TheVariants as answers
 use Rattle.pgs_shards.specs.Devices.{fails}
@@ -158,7 +158,7 @@ scan_legal stride m counting legal = answer_legal stride m (scan_answer stride m
 -- ---- and so does the handing
 
 -- what is handed is of a scan that ended
-abbrev IsOfEnded : Phase → Option Deposit → Type 0
+abbrev IsOfEnded : Phase → Option ScanResult → Type 0
 IsOfEnded phase None = Unit {0}
 IsOfEnded phase (Some deposit) = HasEnded phase
 
@@ -175,7 +175,7 @@ handed_of : (osd : ℕ) (ask : Option Ask) (phase : Phase) (last : Option Object
 handed_of osd None phase last copy steps entries = tt
 handed_of osd (Some ask) phase last copy steps entries = handed_ended osd phase ask entries
 
-deposit_legal : (stride : ℕ) (past : List Event) (deposit : Option Deposit) → IsOfEnded (scanning past).phase deposit → IsLegal stride past → IsLegal stride (past_after_hand deposit past)
+deposit_legal : (stride : ℕ) (past : List Event) (deposit : Option ScanResult) → IsOfEnded (scanning past).phase deposit → IsLegal stride past → IsLegal stride (past_after_hand deposit past)
 deposit_legal stride past None ended legal = legal
 deposit_legal stride past (Some deposit) ended legal = (ended, legal)
 

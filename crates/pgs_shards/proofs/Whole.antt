@@ -12,7 +12,7 @@ use Rattle.pgs_medium.specs.declared.call_kind.CallKind.TheVariants as kinds
 use Rattle.pgs_medium.specs.declared.item.Item.{Item}
 use Rattle.pgs_shard.specs.Listed.{calls_for}
 use Rattle.pgs_shard.specs.Scans.{past_after_hand}
-use Rattle.pgs_shard.specs.declared.deposit.Deposit.{Deposit}
+use Rattle.pgs_exchange.specs.declared.scan_result.ScanResult.{ScanResult}
 use Rattle.pgs_shard.specs.declared.scan_answer.ScanAnswer.{ScanAnswer}
 use Rattle.pgs_shard.specs.declared.scan_answer.ScanAnswer.TheVariants as answers
 use Rattle.pgs_shard_history.specs.Legal.{IsDue}
@@ -138,7 +138,7 @@ whole_scan stride m h =
 
 -- ---- handing
 
-handed_count : (deposit : Option Deposit) (past : List Event) → last_count (past_after_hand deposit past) ≡ last_count past
+handed_count : (deposit : Option ScanResult) (past : List Event) → last_count (past_after_hand deposit past) ≡ last_count past
 handed_count None past = refl
 handed_count (Some deposit) past = refl
 

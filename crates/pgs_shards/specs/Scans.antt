@@ -18,7 +18,7 @@ use Rattle.pgs_shard_history.specs.declared.phase.Phase.{Phase}
 use Rattle.pgs_shard_history.specs.declared.phase.Phase.TheVariants as phases
 use Rattle.pgs_shard_history.specs.declared.scan_event.ScanEvent.TheVariants as events
 use Rattle.pgs_shard.specs.Scans.{handed_in, past_after_hand}
-use Rattle.pgs_shard.specs.declared.deposit.Deposit.{Deposit}
+use Rattle.pgs_exchange.specs.declared.scan_result.ScanResult.{ScanResult}
 use Rattle.pgs_shard.specs.declared.scan_answer.ScanAnswer.{ScanAnswer}
 use Rattle.pgs_shard.specs.declared.scan_answer.ScanAnswer.TheVariants as answers
 use Rattle.pgs_shards.specs.Devices.{DeviceCalls, fails, called}
@@ -126,14 +126,14 @@ with_scanned stride osd members = with_member osd (after_scan stride) members
 
 -- ---- what its scan ended with, handed once
 
-abbrev pub hand_answer : Member → Option Deposit
+abbrev pub hand_answer : Member → Option ScanResult
 hand_answer member = handed_in member.osd (scanning member.past)
 
 -- a member after it
 abbrev pub after_hand : Member → Member
 after_hand member = record member { past = past_after_hand (hand_answer member) member.past }
 
-abbrev pub hand_in : List Member → ℕ → Option Deposit
+abbrev pub hand_in : List Member → ℕ → Option ScanResult
 hand_in members osd = of_member hand_answer None members osd
 
 abbrev pub with_handed : ℕ → List Member → List Member

@@ -1,5 +1,6 @@
 //! One shard, over a device in memory.
-ghost use Rattle.std.specs.Prelude.{◌≡◌, ◌≤◌, length, OnOk, OnErr, IfOk, IfSome};
+ghost use Rattle.std.specs.Prelude.{◌≡◌, ◌≤◌, length, option_map, OnOk, OnErr, IfOk, IfSome};
+ghost use Rattle.pgs_exchange.specs.Deposits.{deposit_of, read_deposit, as_read};
 ghost use Rattle.pgs_shard_history.specs.Feeds.{AreNext, fed};
 ghost use Rattle.pgs_shard_history.specs.Held.{damage_answer};
 ghost use Rattle.pgs_shard_history.specs.declared.event.Event.TheVariants as events;
@@ -16,10 +17,11 @@ use crate::list_answer::ListAnswer;
 use crate::osd_device::OsdDevice;
 use pgs_chunk::Ask;
 use pgs_copy::Damage;
+use pgs_exchange::Deposit;
 use pgs_medium::{Item, RamMedium};
 use pgs_name::{Family, ObjectId};
 use pgs_range::Bound;
-use pgs_shard::{Applied, ApplyError, Deposit, ListError, ScanAnswer, Shard};
+use pgs_shard::{Applied, ApplyError, ListError, ScanAnswer, Shard};
 use pgs_shard_history::DamageAnswer;
 use sqlite_items::Items;
 use std::alloc::{AllocError, Global};
@@ -137,12 +139,13 @@ pub fn scan(shard: &mut Shard<RamMedium>) -> Result<ScanAnswer, AllocError>
 
 /// Hands what that scan ended with, once.
 pub fn hand(shard: &mut Shard<RamMedium>) -> Option<Deposit>
-    ensures handed { result ≡ hand_answer (seen shard.old) }
+    ensures handed { result ≡ option_map deposit_of (hand_answer (seen shard.old)) }
+    ensures again { option_map read_deposit result ≡ option_map as_read (hand_answer (seen shard.old)) }
     ensures stride { shard.new.stride ≡ shard.old.stride }
     ensures kept { seen shard.new ≡ after_hand (seen shard.old) }
 
     // The entries of a map are in order and of its range.
-    ensures in_range { IfSome result IsHandedInRange }
+    ensures in_range { IfSome (hand_answer (seen shard.old)) IsHandedInRange }
 {
     shard.hand()
 }

@@ -1,4 +1,5 @@
-ghost use Rattle.std.specs.Prelude.{◌≡◌, ◌≤◌, ◌-◌, ◌∷◌, ◌++◌, length, map, position, OnOk, OnErr, IfOk, IfSome};
+ghost use Rattle.std.specs.Prelude.{◌≡◌, ◌≤◌, ◌-◌, ◌∷◌, ◌++◌, length, map, option_map, position, OnOk, OnErr, IfOk, IfSome};
+ghost use Rattle.pgs_exchange.specs.Deposits.{deposit_of, read_deposit, as_read};
 ghost use Rattle.pgs_shard_history.specs.Feeds.{AreNext, fed};
 ghost use Rattle.pgs_shard_history.specs.Stores.{applied};
 ghost use Rattle.pgs_shard_history.specs.declared.event.Event.TheVariants as events;
@@ -16,10 +17,11 @@ use crate::osd_device::OsdDevice;
 use crate::ram_shard;
 use pgs_chunk::Ask;
 use pgs_copy::Damage;
+use pgs_exchange::Deposit;
 use pgs_medium::{Item, RamMedium};
 use pgs_name::Family;
 use pgs_range::Bound;
-use pgs_shard::{Deposit, ScanAnswer, Shard};
+use pgs_shard::{ScanAnswer, Shard};
 use pgs_shard_history::DamageAnswer;
 use sqlite_items::Items;
 use std::alloc::{AllocError, Global};
@@ -218,11 +220,13 @@ impl Shards {
     /// Hands what that scan ended with, once. One that is no member has nothing to hand.
     #[tactic(auto, using(crate::proofs::Places::hands, crate::proofs::Places::stride_set))]
     pub fn hand(&mut self, osd: u32) -> Option<Deposit>
-        ensures handed { result ≡ hand_in self.old.all osd }
+        ensures handed { result ≡ option_map deposit_of (hand_in self.old.all osd) }
+        // A map's bytes are decoded as the map.
+        ensures again { option_map read_deposit result ≡ option_map as_read (hand_in self.old.all osd) }
         ensures kept { self.new ≡ record self.old { all = with_handed osd self.old.all } }
 
         // The entries of a map are in order and of its range.
-        ensures in_range { IfSome result IsHandedInRange }
+        ensures in_range { IfSome (hand_in self.old.all osd) IsHandedInRange }
     {
         match place(self.items.as_slice(), osd) {
             Some(at) => {

@@ -18,12 +18,12 @@ use super::PlacementGroup;
 use crate::naming::kind_of;
 use crate::saying::{begin_said, close_said, fault_said, open_said, take_said};
 use pgs_done::{Done, OpenAnswer, TakeAnswer};
+use pgs_exchange::{Found, ScanResult, open_whole};
 use pgs_group::NextChunk;
 use pgs_history::BeginAnswer;
 use pgs_lines::Kind;
 use pgs_name::ObjectId;
 use pgs_range::Bound;
-use pgs_shard::{Deposit, Handed};
 use pgs_shards::ListAnswer;
 use sqlite_items::Items;
 use std::alloc::AllocError;
@@ -155,24 +155,25 @@ impl PlacementGroup {
         requires member { is_member self.old.made osd ≡ true }
         ensures { OnOk result (self.new ≡ scrubs.after_taking self.old group osd) }
     {
-        let Some(deposit) = self.hand(osd) else {
+        let handed = self.hand(osd)?;
+        let Some(scanned) = handed else {
             return self.keep(not_done(group, osd));
         };
-        let Deposit {
+        let ScanResult {
             serial,
             chunk,
             applied,
             place,
             found,
             ..
-        } = deposit;
+        } = scanned;
         match found {
-            Handed::Map { map } => {
+            Found::Map { map } => {
                 let taken = self.group.take(place, map)?;
                 let answer = take_said(applied, place, taken);
                 self.keep(Done::Take { group, osd, answer })
             }
-            Handed::ListFault { count } => {
+            Found::ListFault { count } => {
                 let ended = self.group.fault(serial, chunk, osd, count)?;
                 let answer = fault_said(count, ended);
                 self.keep(Done::Take { group, osd, answer })
@@ -180,13 +181,18 @@ impl PlacementGroup {
         }
     }
 
-    // What a member's scan ended with, if it ended with something.
-    fn hand(&mut self, osd: u32) -> Option<Deposit>
-        ensures handed { result ≡ hand_in self.old.members osd }
-        ensures kept { self.new ≡ record self.old { members = with_handed osd self.old.members } }
-        ensures in_range { IfSome result IsHandedInRange }
+    // What a member's scan ended with, if it ended with something, decoded. Where memory runs out it is lost.
+    #[tactic(auto, using(pgs_exchange::proofs::Whole::whole_of, pgs_exchange::proofs::Whole::told_is))]
+    fn hand(&mut self, osd: u32) -> Result<Option<ScanResult>, AllocError>
+        ensures handed { IfOk result (λ told. told ≡ hand_in self.old.members osd) }
+        ensures kept { OnOk result (self.new ≡ record self.old { members = with_handed osd self.old.members }) }
+        ensures in_range { IfOk result (λ told. IfSome told IsHandedInRange) }
     {
-        self.shards.hand(osd)
+        let Some(deposit) = self.shards.hand(osd) else {
+            return Ok(None);
+        };
+        let told = open_whole(self.alloc, deposit)?;
+        Ok(Some(told))
     }
 
     // Something was done.

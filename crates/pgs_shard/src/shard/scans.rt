@@ -1,5 +1,6 @@
 //! The scan of the newest ask.
-ghost use Rattle.std.specs.Prelude.{◌≡◌, IfOk, IfSome};
+ghost use Rattle.std.specs.Prelude.{◌≡◌, option_map, IfOk, IfSome};
+ghost use Rattle.pgs_exchange.specs.Deposits.{deposit_of, read_deposit, as_read};
 ghost use Rattle.pgs_shard_history.specs.Scanning.{scanning};
 ghost use Rattle.pgs_shard_history.specs.Stores.{applied};
 ghost use Rattle.pgs_shard_history.specs.declared.event.Event.TheVariants.{Scanned};
@@ -8,10 +9,10 @@ ghost use Rattle.pgs_shard.specs.Scans.{IsScanAnswer, IsScanLeft, past_after_sca
 ghost use Rattle.pgs_shard.specs.Steps.{MayListNext, IsStatNext, IsReadNext};
 
 use super::Shard;
-use crate::deposit::Deposit;
 use crate::scan_answer::ScanAnswer;
 use crate::scan_due::ScanDue;
 use pgs_crc::Tables;
+use pgs_exchange::Deposit;
 use pgs_medium::{Medium, MediumError};
 use pgs_name::ObjectId;
 use pgs_scan::{Mark, Reading, ReadingStep, unread_entry};
@@ -61,7 +62,6 @@ impl<M: Medium> Shard<M> {
         ensures stride { self.new.stride ≡ self.old.stride }
     {
         self.events.reserve(2)?;
-        let range = self.scan.range()?;
         let place = self.events.len() as u64 + 1;
         let applied = self.applied as u64;
         match self.scan.next_of(&mut self.medium) {
@@ -74,7 +74,8 @@ impl<M: Medium> Shard<M> {
                 Ok(ScanAnswer::Found { id })
             }
             Ok(None) => {
-                self.scan.end(place, applied, range);
+                let map = self.scan.encoded(self.alloc, self.osd, applied)?;
+                self.scan.end(self.alloc, place, applied, map);
                 self.events.push_reserved(scanned(ScanEvent::Done));
                 Ok(ScanAnswer::Done)
             }
@@ -161,12 +162,15 @@ impl<M: Medium> Shard<M> {
     }
 
     /// Hands what the scan of the newest ask ended with, once. It takes no memory.
+    #[tactic(auto, using(crate::proofs::Steps::hands))]
     pub fn hand(&mut self) -> Option<Deposit>
-        ensures handed { result ≡ handed_in self.old.osd (scanning self.old.past) }
-        ensures kept { self.new ≡ record self.old { past = past_after_hand result self.old.past } }
+        ensures handed { result ≡ option_map deposit_of (handed_in self.old.osd (scanning self.old.past)) }
+        // A map's bytes are decoded as the map.
+        ensures again { option_map read_deposit result ≡ option_map as_read (handed_in self.old.osd (scanning self.old.past)) }
+        ensures kept { self.new ≡ record self.old { past = past_after_hand (handed_in self.old.osd (scanning self.old.past)) self.old.past } }
 
         // The entries of a map are in order and of its range.
-        ensures in_range { IfSome result IsHandedInRange }
+        ensures in_range { IfSome (handed_in self.old.osd (scanning self.old.past)) IsHandedInRange }
     {
         let deposit = self.scan.hand(self.alloc, self.osd)?;
         self.events.push_reserved(Event::Handed);

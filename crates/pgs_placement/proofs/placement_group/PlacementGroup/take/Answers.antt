@@ -5,5 +5,5 @@ use Rattle.pgs_placement.proofs.placement_group.PlacementGroup.take.Goals as goa
 
 pub fault-requires-clause-begun : goal.fault-requires-clause-begun
 fault-requires-clause-begun c =
-    subst (λ past. IsBegun past c.in-Some.deposit.serial) (sym (ap (λ w. w.past) (c.self-in-ListFault.view_is ∙ c.hand.ensures.kept)))
-    (fault_begun c.args.self.now c.args.osd c.in-Some.deposit c.in-ListFault.count c.requires.sound c.requires.member (sym c.in-Some.is ∙ c.hand.ensures.handed) (sym c.in-ListFault.is))
+    subst (λ past. IsBegun past c.in-Some.scanned.serial) (sym (ap (λ w. w.past) (c.self-in-ListFault.view_is ∙ c.in_ok-handed.ensures.kept)))
+    (fault_begun c.args.self.now c.args.osd c.in-Some.scanned c.in-ListFault.count c.requires.sound c.requires.member (sym c.in-Some.is ∙ c.in_ok-handed.ensures.handed) (sym c.in-ListFault.is))

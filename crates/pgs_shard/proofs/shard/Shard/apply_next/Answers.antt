@@ -14,7 +14,7 @@ invariant_of-self-in-Ok g c =
     let is : c.index.result.now ≡ get_or c.self.inside.items.items c.self.inside.applied c.index.result.now = search rules in
     let here : slice_get c.self.inside.items.items c.self.inside.applied ≡ Some c.index.result.now = slice_get-get_or _ _ _ below ∙ ap Some (sym is) in
     rw (c.push_reserved.ensures.items, c.reserve.ensures.items, reverse-append) (
-      tied_applied _ _ _ _ _ _ _ _ _ c.index.result.now c.item_applied-drops.result c.in-Ok.field-0 c.self.invariant.0 below c.as_slice.ensures.value here c.in-Ok.ensures c.item_applied-drops.ensures.drops c.item_applied-drops.ensures.left,
+      tied_applied _ _ _ _ _ _ _ _ _ _ c.index.result.now c.item_applied-drops.result c.in-Ok.field-0 c.self.invariant.0 below c.as_slice.ensures.value here c.in-Ok.ensures c.item_applied-drops.ensures.drops c.item_applied-drops.ensures.left,
       room_some _ _ _ (omega (arith, c.in_ok-reserve.ensures.ok, c.push_reserved.ensures.len, c.push_reserved.ensures.capacity, c.reserve.ensures.len)),
     )
 
@@ -26,4 +26,4 @@ returns-in-Ok-clause-answer g c =
     subst (λ v.
     (c.self.inside.applied + 1 ≡ applied v.past + 1) × (c.self.inside.applied + 1 ≤ length (fed v.past)) × IsDoneAt (item_of (c.self.inside.applied + 1) (fed v.past)) (g.M.Medium.device v.medium) (g.M.Medium.device c.write_at.new.medium)
     × (c.item_applied-drops.result ≡ drop_of (scanning v.past) (item_of (c.self.inside.applied + 1) (fed v.past)))) c.self.view_is
-    (applied_answer _ _ _ _ _ _ _ _ c.index.result.now c.item_applied-drops.result c.in-Ok.field-0 c.self.invariant.0 below c.as_slice.ensures.value here c.in-Ok.ensures c.item_applied-drops.ensures.drops)
+    (applied_answer _ _ _ _ _ _ _ _ _ c.index.result.now c.item_applied-drops.result c.in-Ok.field-0 c.self.invariant.0 below c.as_slice.ensures.value here c.in-Ok.ensures c.item_applied-drops.ensures.drops)

@@ -7,6 +7,6 @@ use Rattle.pgs_shard.proofs.shard.Shard.feed.Goals as goal
 pub invariant_of-self-2 : goal.invariant_of-self-2
 invariant_of-self-2 g c =
     rw (c.push_reserved.ensures.items, c.reserve.ensures.items, reverse-append, c.in_ok-append.ensures.items) (
-      tied_fed _ _ _ _ _ _ _ _ _ _ _ _ c.self.invariant.0 c.requires.next (search rules) (search rules) (c.in_ok-fresh.ensures ∙ ap (beyond _) c.as_slice.ensures) (search rules),
+      tied_fed _ _ _ _ _ _ _ _ _ _ _ _ _ c.self.invariant.0 c.requires.next (search rules) (search rules) (c.in_ok-fresh.ensures ∙ ap (beyond _) c.as_slice.ensures) (search rules),
       room_some _ _ _ (omega (arith, c.in_ok-reserve.ensures.ok, c.push_reserved.ensures.len, c.push_reserved.ensures.capacity, c.reserve.ensures.len)),
     )

@@ -9,4 +9,4 @@ use Rattle.pgs_shard.proofs.shard.Shard.scan.Goals as goal
 pub scan_stat-requires : goal.scan_stat-requires
 scan_stat-requires g c =
     let due : dues.Stat ≡ due_in c.self.inside.scan c.self.inside.applied = search rules in
-    subst (λ v. IsStatNext (scanning v.past)) c.self.view_is (due_stat _ _ _ _ _ _ c.self.invariant.0 due)
+    subst (λ v. IsStatNext (scanning v.past)) c.self.view_is (due_stat _ _ _ _ _ _ _ c.self.invariant.0 due)

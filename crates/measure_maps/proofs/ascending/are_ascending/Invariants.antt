@@ -1,6 +1,6 @@
 use Rattle.std.proofs.Common.{length, ◌-◌, ◌≤◌}
-use Rattle.compare_maps.proofs.Turns.{AreBelow}
-use Rattle.compare_maps.proofs.ascending.are_ascending.Given as goal
+use Rattle.measure_maps.proofs.Turns.{AreBelow}
+use Rattle.measure_maps.proofs.ascending.are_ascending.Given as goal
 
 -- so far each entry stands before the next
 abbrev pub invariant-loop-at : goal.invariant-loop-at

@@ -2,7 +2,7 @@ use pgs_map::ScrubMap;
 
 /// What a scan ended with.
 #[derive(Drop)]
-pub enum Handed {
+pub enum Found {
     /// A map of the range.
     Map {
         map: ScrubMap,
@@ -14,9 +14,9 @@ pub enum Handed {
     },
 }
 
-/// What a member hands to its group of a scan that ended.
+/// What a deposit tells, once its map is decoded.
 #[derive(Drop)]
-pub struct Deposit {
+pub struct ScanResult {
     /// The member's number.
     pub osd: u32,
     /// The number of the scrub.
@@ -27,5 +27,5 @@ pub struct Deposit {
     pub applied: u64,
     /// How many events the shard's history then had.
     pub place: u64,
-    pub found: Handed,
+    pub found: Found,
 }

@@ -1,0 +1,4 @@
+pub mod Encoded
+pub mod Lengths
+pub mod Checked
+pub mod Whole
