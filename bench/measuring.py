@@ -121,6 +121,21 @@ def time_of_rounds(program, work, entries, rounds, runs):
     return worked - made
 
 
+def instructions_of(words, folder):
+    """How many instructions a run takes, as valgrind counts them."""
+    kept = os.path.join(folder, 'counted')
+    run = subprocess.run(['valgrind', '--tool=callgrind', '--callgrind-out-file=' + kept] + words, stdout=subprocess.DEVNULL,
+                         stderr=subprocess.PIPE, check=True)
+    return int(run.stderr.split(b'Collected : ')[1].split()[0])
+
+
+def instructions_of_rounds(program, work, entries, rounds):
+    """The instructions of so many rounds of a work on maps: those of a run with them, less those of one that only makes the maps."""
+    with tempfile.TemporaryDirectory() as folder:
+        made, worked = [instructions_of([program, work, str(entries), str(number)], folder) for number in (0, rounds)]
+    return worked - made
+
+
 def print_each(work, numbers, times, rounds):
     """Prints the time of a work for each number of entries, and for one entry."""
     each = [time / (entries * rounds) for time, entries in zip(times, numbers)]
@@ -129,11 +144,11 @@ def print_each(work, numbers, times, rounds):
               % (work, entries, time, one * 1e6, numbers[0], one / each[0]))
 
 
-def growths(numbers, times):
-    """Prints how the time grew with so many things, and gives the last growth."""
-    growth = [after / before for before, after in zip(times, times[1:])]
+def growths(numbers, figures, what='time'):
+    """Prints how the time, or another figure, grew with so many things, and gives the last growth."""
+    growth = [after / before for before, after in zip(figures, figures[1:])]
     for at, ratio in enumerate(growth):
-        print('time(%d) / time(%d): %.2f' % (numbers[at + 1], numbers[at], ratio))
+        print('%s(%d) / %s(%d): %.2f' % (what, numbers[at + 1], what, numbers[at], ratio))
     return growth[-1]
 
 
